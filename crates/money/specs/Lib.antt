@@ -1,0 +1,4 @@
+pub mod Limits
+pub mod Postings
+pub mod Range
+pub mod Rounding

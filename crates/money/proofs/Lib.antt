@@ -1,2 +1,3 @@
 pub mod Division
+pub mod Ranges
 pub mod Worths

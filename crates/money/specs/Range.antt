@@ -2,7 +2,8 @@
 use mathlib.Core.Bool.{Bool, cond}
 use Prim.Native.Nat.{ℕ, _^_}
 use lib.Dec.{ltb}
-use lib.IntN.{ℤ, pos, negsuc}
+use lib.IntN.{ℤ, pos, negsuc, negℤ}
+use lib.Signed.{_≤ℤ_, _<ℤ_}
 use Rattle.std.specs.declared.result.Result.{Result}
 use Rattle.std.specs.declared.result.Result.the-variants.{Ok, Err}
 use Rattle.money.specs.declared.amounts.Money.{Money}
@@ -21,6 +22,14 @@ inKths v = record { kths = v }
 abbrev pub inRange : ℤ → Bool
 inRange (pos n) = ltb n (2 ^ 63)
 inRange (negsuc n) = ltb n (2 ^ 63)
+
+-- above that range
+abbrev pub TooHigh : ℤ → Type 0
+TooHigh v = pos (2 ^ 63) ≤ℤ v
+
+-- below it
+abbrev pub TooLow : ℤ → Type 0
+TooLow v = v <ℤ negℤ (pos (2 ^ 63))
 
 -- exactly v as money of a kind, or a refusal where v is out of range
 abbrev pub exactly : {M : Type 0} → (ℤ → M) → ℤ → Result M OutOfRange

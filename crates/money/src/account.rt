@@ -1,7 +1,9 @@
 // The account of priced time: minutes are charged to it at a price, and handed back from it at a price.
 ghost use mathlib.Core.Path.{_≡_};
+ghost use mathlib.Core.Bool.{true};
 ghost use Rattle.money.specs.Postings.{worth, charged, handedBack, answered, balanced};
-ghost use Rattle.money.specs.Range.{inKths};
+ghost use Rattle.money.specs.Range.{inKths, inRange, TooHigh, TooLow};
+ghost use Rattle.std.specs.Vec.{refused};
 use crate::amounts::OutOfRange;
 use crate::amounts::ScaledMoney;
 use crate::amounts::ScaledMoneyDebug;
@@ -22,6 +24,7 @@ impl PricedTime {
 #[derive(Clone, Copy, Debug, PartialEq, Eq)]
 pub struct TimeAccount {
     balance: ScaledMoney,
+    ghost held: { inRange (balance .kths) ≡ true },
 }
 
 impl TimeAccount {
@@ -41,6 +44,7 @@ impl TimeAccount {
     pub fn charge(&mut self, time: PricedTime) -> Result<ScaledMoney, OutOfRange>
         ensures answer { λ r. ⌜ r ≡ answered (charged (now (self .entry) .balance .kths) time) time ⌝ }
         ensures balance { λ _. ⌜ now (self .exit) .balance ≡ balanced (now (self .entry) .balance) (charged (now (self .entry) .balance .kths) time) ⌝ }
+        ensures cause { λ r. ⌜ refused r (λ _. TooHigh (charged (now (self .entry) .balance .kths) time)) ⌝ }
     {
         let amount = time.worth();
         self.balance = self.balance.checked_add(amount)?;
@@ -51,6 +55,7 @@ impl TimeAccount {
     pub fn hand_back(&mut self, time: PricedTime) -> Result<ScaledMoney, OutOfRange>
         ensures answer { λ r. ⌜ r ≡ answered (handedBack (now (self .entry) .balance .kths) time) time ⌝ }
         ensures balance { λ _. ⌜ now (self .exit) .balance ≡ balanced (now (self .entry) .balance) (handedBack (now (self .entry) .balance .kths) time) ⌝ }
+        ensures cause { λ r. ⌜ refused r (λ _. TooLow (handedBack (now (self .entry) .balance .kths) time)) ⌝ }
     {
         let amount = time.worth();
         self.balance = self.balance.checked_sub(amount)?;

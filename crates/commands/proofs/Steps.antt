@@ -1,0 +1,82 @@
+-- One posting more in a ledger.
+use mathlib.Core.Path.{_≡_, refl, sym, ap, _∙_}
+use mathlib.Core.Bool.{Bool, true, false, cond}
+use mathlib.Core.List.{List, [], _∷_, _++_, append-assoc, append-nil}
+use Prim.Native.Nat.{ℕ, suc, _+_, _≤_, _<_}
+use native.Mathlib.Omega.{arith}
+use lib.IntN.{ℤ}
+use lib.ListN.{length, drop, getD}
+use Rattle.std.specs.declared.result.Result.{Result}
+use Rattle.std.specs.declared.result.Result.the-variants.{Ok, Err}
+use Rattle.std.proofs.shelf.Lists.{drop-all, drop-more}
+use Rattle.std.proofs.shelf.Tests.{both-ways as never-both}
+use Rattle.money.proofs.Ranges.{low-outside}
+use Rattle.money.specs.declared.amounts.OutOfRange.{OutOfRange as TooLarge}
+use Rattle.money.specs.declared.amounts.ScaledMoney.{ScaledMoney}
+use Rattle.money.specs.declared.priced.PricedTime.{PricedTime}
+use Rattle.money.specs.Range.{inRange, inKths, TooLow}
+use Rattle.money.specs.Postings.{balanced}
+use Rattle.commands.proofs.Balances.{stays-beyond, restored}
+use Rattle.commands.specs.declared.ledger.Entry.{Entry}
+use Rattle.commands.specs.declared.ledger.Posting.{Posting}
+use Rattle.commands.specs.declared.ledger.Posting.the-variants.{Charge, HandBack}
+use Rattle.commands.specs.declared.ledger.Refusal.{Refusal}
+use Rattle.commands.specs.declared.ledger.Refusal.the-variants.{Memory, OutOfRange}
+use Rattle.commands.specs.Ledger.{posted, balanceAfter, Beyond, entry, entries, postedEntry, outAndBack, Answers}
+
+-- what a turn of the loop knows of the ledger and the balance: with what is left to post, they come to `all` and `end`
+pub record Sofar (way : Posting) (ts : List PricedTime) (all : List Entry) (end : ℤ) (n : ℕ) (ledger : List Entry) (b : ℤ) : Type 0 where
+  pub ledger-left : ledger ++ entries way n b (drop n ts) ≡ all
+  pub balance-left : balanceAfter way b (drop n ts) ≡ end
+
+module _ (way : Posting) (ts : List PricedTime) (all : List Entry) (end : ℤ) where
+  pub no-more : (n : ℕ) (ledger : List Entry) (b : ℤ) → length ts ≤ n → Sofar way ts all end n ledger b → (ledger ≡ all) × (b ≡ end)
+  no-more n ledger b h s =
+      let e = drop-all n ts h in
+      let p : ledger ++ entries way n b [] ≡ all = rw e at (s .ledger-left) in
+      let q : balanceAfter way b [] ≡ end = rw e at (s .balance-left) in
+      (sym (append-nil ledger) ∙ p, q)
+
+  pub one-more : (n : ℕ) (ledger : List Entry) (b : ℤ) (t : PricedTime) → n < length ts → t ≡ getD ts n t → Sofar way ts all end n ledger b
+      → (more : List Entry) (x : Entry) (b′ : ℤ) → more ≡ ledger ++ x ∷ [] → x ≡ entry way n b t → b′ ≡ posted way b t → Sofar way ts all end (n + 1) more b′
+  one-more n ledger b t h e s more x b′ m-is x-is b-is =
+      let d : drop n ts ≡ t ∷ drop (n + 1) ts = drop-more ts n t h ∙ ap (λ x. x ∷ drop (n + 1) ts) (sym e) in
+      let p : ledger ++ entries way n b (t ∷ drop (n + 1) ts) ≡ all = rw d at (s .ledger-left) in
+      let q : balanceAfter way b (t ∷ drop (n + 1) ts) ≡ end = rw d at (s .balance-left) in
+      rw (m-is, x-is, b-is)
+      (record {
+        ledger-left = append-assoc ledger (entry way n b t ∷ []) (entries way (n + 1) (posted way b t) (drop (n + 1) ts)) ∙ p;
+        balance-left = q;
+      })
+
+  -- a posting beyond the range takes the balance of all of them with it
+  pub all-beyond : (n : ℕ) (ledger : List Entry) (b : ℤ) (t : PricedTime) → n < length ts → t ≡ getD ts n t → Beyond way (posted way b t) → Sofar way ts all end n ledger b
+      → Beyond way end
+  all-beyond n ledger b t h e o s =
+      let d : drop n ts ≡ t ∷ drop (n + 1) ts = drop-more ts n t h ∙ ap (λ x. x ∷ drop (n + 1) ts) (sym e) in
+      let q : balanceAfter way b (t ∷ drop (n + 1) ts) ≡ end = rw d at (s .balance-left) in
+      rw (sym q) (stays-beyond way (posted way b t) (drop (n + 1) ts) o)
+
+-- what an answered posting says
+module _ (way : Posting) (n : ℕ) (b : ScaledMoney) (t : PricedTime) (r : Result Entry TooLarge) (r-is : r ≡ postedEntry way n (b .kths) t) where
+  pub was-posted : (e : Entry) → r ≡ Ok e → (inRange (posted way (b .kths) t) ≡ true) × (e ≡ entry way n (b .kths) t)
+  was-posted e o = grind arith
+
+pub balanced-is : (old m : ScaledMoney) (v : ℤ) → inRange v ≡ true → m ≡ balanced old v → m .kths ≡ v
+balanced-is old m v i e = grind arith
+
+-- ---- out, and back: from the balance b to b1, and from there to b2
+module _ (ts : List PricedTime) (b b1 : ℤ) (out : b1 ≡ balanceAfter Charge b ts) where
+  pub both-ways : (l0 l1 l2 : List Entry) → l0 ≡ [] → l1 ≡ l0 ++ entries Charge 0 b ts → l2 ≡ l1 ++ entries HandBack 0 b1 ts → l2 ≡ outAndBack b ts
+  both-ways l0 l1 l2 e0 e1 e2 = rw (e2, e1, e0, out)
+
+  pub came-back : (m0 m2 : ScaledMoney) → m0 .kths ≡ b → m2 .kths ≡ balanceAfter HandBack b1 ts → m2 ≡ m0
+  came-back m0 m2 e0 e2 = ap inKths (e2 ∙ ap (λ v. balanceAfter HandBack v ts) out ∙ restored b ts ∙ sym e0)
+
+  -- handing back never leaves the range
+  pub back-within : (e : Refusal) → inRange b ≡ true → (e ≡ OutOfRange → TooLow (balanceAfter HandBack b1 ts)) → Answers (Err e) b ts
+  back-within Memory i h = tt
+  back-within OutOfRange i h =
+      let z : _≡_ {A = ℤ} (balanceAfter HandBack b1 ts) b = ap (λ v. balanceAfter HandBack v ts) out ∙ restored b ts in
+      let l : TooLow b = rw (sym z) (h refl) in
+      absurd (never-both (inRange b) (low-outside b l) i)

@@ -1,2 +1,3 @@
 pub mod Balances
+pub mod Lines
 pub mod Steps

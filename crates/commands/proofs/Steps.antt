@@ -15,19 +15,19 @@ use Rattle.money.specs.declared.amounts.OutOfRange.{OutOfRange as TooLarge}
 use Rattle.money.specs.declared.amounts.ScaledMoney.{ScaledMoney}
 use Rattle.money.specs.declared.priced.PricedTime.{PricedTime}
 use Rattle.money.specs.Range.{inRange, inKths, TooLow}
-use Rattle.money.specs.Postings.{balanced}
+use Rattle.money.specs.Postings.{worth, balanced}
 use Rattle.commands.proofs.Balances.{stays-beyond, restored}
 use Rattle.commands.specs.declared.ledger.Entry.{Entry}
 use Rattle.commands.specs.declared.ledger.Posting.{Posting}
 use Rattle.commands.specs.declared.ledger.Posting.the-variants.{Charge, HandBack}
 use Rattle.commands.specs.declared.ledger.Refusal.{Refusal}
 use Rattle.commands.specs.declared.ledger.Refusal.the-variants.{Memory, OutOfRange}
-use Rattle.commands.specs.Ledger.{posted, balanceAfter, Beyond, entry, entries, postedEntry, outAndBack, Answers}
+use Rattle.commands.specs.Ledger.{worths, posted, balanceAfter, Beyond, entry, entries, postedEntry, outAndBack, Answers}
 
 -- what a turn of the loop knows of the ledger and the balance: with what is left to post, they come to `all` and `end`
 pub record Sofar (way : Posting) (ts : List PricedTime) (all : List Entry) (end : ℤ) (n : ℕ) (ledger : List Entry) (b : ℤ) : Type 0 where
-  pub ledger-left : ledger ++ entries way n b (drop n ts) ≡ all
-  pub balance-left : balanceAfter way b (drop n ts) ≡ end
+  pub ledger-left : ledger ++ entries way n b (worths (drop n ts)) ≡ all
+  pub balance-left : balanceAfter way b (worths (drop n ts)) ≡ end
 
 module _ (way : Posting) (ts : List PricedTime) (all : List Entry) (end : ℤ) where
   pub no-more : (n : ℕ) (ledger : List Entry) (b : ℤ) → length ts ≤ n → Sofar way ts all end n ledger b → (ledger ≡ all) × (b ≡ end)
@@ -38,45 +38,45 @@ module _ (way : Posting) (ts : List PricedTime) (all : List Entry) (end : ℤ) w
       (sym (append-nil ledger) ∙ p, q)
 
   pub one-more : (n : ℕ) (ledger : List Entry) (b : ℤ) (t : PricedTime) → n < length ts → t ≡ getD ts n t → Sofar way ts all end n ledger b
-      → (more : List Entry) (x : Entry) (b′ : ℤ) → more ≡ ledger ++ x ∷ [] → x ≡ entry way n b t → b′ ≡ posted way b t → Sofar way ts all end (n + 1) more b′
+      → (more : List Entry) (x : Entry) (b′ : ℤ) → more ≡ ledger ++ x ∷ [] → x ≡ entry way n b (worth t) → b′ ≡ posted way b (worth t) → Sofar way ts all end (n + 1) more b′
   one-more n ledger b t h e s more x b′ m-is x-is b-is =
       let d : drop n ts ≡ t ∷ drop (n + 1) ts = drop-more ts n t h ∙ ap (λ x. x ∷ drop (n + 1) ts) (sym e) in
-      let p : ledger ++ entries way n b (t ∷ drop (n + 1) ts) ≡ all = rw d at (s .ledger-left) in
-      let q : balanceAfter way b (t ∷ drop (n + 1) ts) ≡ end = rw d at (s .balance-left) in
+      let p : ledger ++ entries way n b (worths (t ∷ drop (n + 1) ts)) ≡ all = rw d at (s .ledger-left) in
+      let q : balanceAfter way b (worths (t ∷ drop (n + 1) ts)) ≡ end = rw d at (s .balance-left) in
       rw (m-is, x-is, b-is)
       (record {
-        ledger-left = append-assoc ledger (entry way n b t ∷ []) (entries way (n + 1) (posted way b t) (drop (n + 1) ts)) ∙ p;
+        ledger-left = append-assoc ledger (entry way n b (worth t) ∷ []) (entries way (n + 1) (posted way b (worth t)) (worths (drop (n + 1) ts))) ∙ p;
         balance-left = q;
       })
 
   -- a posting beyond the range takes the balance of all of them with it
-  pub all-beyond : (n : ℕ) (ledger : List Entry) (b : ℤ) (t : PricedTime) → n < length ts → t ≡ getD ts n t → Beyond way (posted way b t) → Sofar way ts all end n ledger b
+  pub all-beyond : (n : ℕ) (ledger : List Entry) (b : ℤ) (t : PricedTime) → n < length ts → t ≡ getD ts n t → Beyond way (posted way b (worth t)) → Sofar way ts all end n ledger b
       → Beyond way end
   all-beyond n ledger b t h e o s =
       let d : drop n ts ≡ t ∷ drop (n + 1) ts = drop-more ts n t h ∙ ap (λ x. x ∷ drop (n + 1) ts) (sym e) in
-      let q : balanceAfter way b (t ∷ drop (n + 1) ts) ≡ end = rw d at (s .balance-left) in
-      rw (sym q) (stays-beyond way (posted way b t) (drop (n + 1) ts) o)
+      let q : balanceAfter way b (worths (t ∷ drop (n + 1) ts)) ≡ end = rw d at (s .balance-left) in
+      rw (sym q) (stays-beyond way (posted way b (worth t)) (worths (drop (n + 1) ts)) o)
 
 -- what an answered posting says
-module _ (way : Posting) (n : ℕ) (b : ScaledMoney) (t : PricedTime) (r : Result Entry TooLarge) (r-is : r ≡ postedEntry way n (b .kths) t) where
-  pub was-posted : (e : Entry) → r ≡ Ok e → (inRange (posted way (b .kths) t) ≡ true) × (e ≡ entry way n (b .kths) t)
+module _ (way : Posting) (n : ℕ) (b : ScaledMoney) (w : ℕ) (r : Result Entry TooLarge) (r-is : r ≡ postedEntry way n (b .kths) w) where
+  pub was-posted : (e : Entry) → r ≡ Ok e → (inRange (posted way (b .kths) w) ≡ true) × (e ≡ entry way n (b .kths) w)
   was-posted e o = grind arith
 
 pub balanced-is : (old m : ScaledMoney) (v : ℤ) → inRange v ≡ true → m ≡ balanced old v → m .kths ≡ v
 balanced-is old m v i e = grind arith
 
 -- ---- out, and back: from the balance b to b1, and from there to b2
-module _ (ts : List PricedTime) (b b1 : ℤ) (out : b1 ≡ balanceAfter Charge b ts) where
-  pub both-ways : (l0 l1 l2 : List Entry) → l0 ≡ [] → l1 ≡ l0 ++ entries Charge 0 b ts → l2 ≡ l1 ++ entries HandBack 0 b1 ts → l2 ≡ outAndBack b ts
+module _ (ns : List ℕ) (b b1 : ℤ) (out : b1 ≡ balanceAfter Charge b ns) where
+  pub both-ways : (l0 l1 l2 : List Entry) → l0 ≡ [] → l1 ≡ l0 ++ entries Charge 0 b ns → l2 ≡ l1 ++ entries HandBack 0 b1 ns → l2 ≡ outAndBack b ns
   both-ways l0 l1 l2 e0 e1 e2 = rw (e2, e1, e0, out)
 
-  pub came-back : (m0 m2 : ScaledMoney) → m0 .kths ≡ b → m2 .kths ≡ balanceAfter HandBack b1 ts → m2 ≡ m0
-  came-back m0 m2 e0 e2 = ap inKths (e2 ∙ ap (λ v. balanceAfter HandBack v ts) out ∙ restored b ts ∙ sym e0)
+  pub came-back : (m0 m2 : ScaledMoney) → m0 .kths ≡ b → m2 .kths ≡ balanceAfter HandBack b1 ns → m2 ≡ m0
+  came-back m0 m2 e0 e2 = ap inKths (e2 ∙ ap (λ v. balanceAfter HandBack v ns) out ∙ restored b ns ∙ sym e0)
 
   -- handing back never leaves the range
-  pub back-within : (e : Refusal) → inRange b ≡ true → (e ≡ OutOfRange → TooLow (balanceAfter HandBack b1 ts)) → Answers (Err e) b ts
+  pub back-within : (e : Refusal) → inRange b ≡ true → (e ≡ OutOfRange → TooLow (balanceAfter HandBack b1 ns)) → Answers (Err e) b ns
   back-within Memory i h = tt
   back-within OutOfRange i h =
-      let z : _≡_ {A = ℤ} (balanceAfter HandBack b1 ts) b = ap (λ v. balanceAfter HandBack v ts) out ∙ restored b ts in
+      let z : _≡_ {A = ℤ} (balanceAfter HandBack b1 ns) b = ap (λ v. balanceAfter HandBack v ns) out ∙ restored b ns in
       let l : TooLow b = rw (sym z) (h refl) in
       absurd (never-both (inRange b) (low-outside b l) i)

@@ -1,9 +1,9 @@
 -- The ledger of an account of priced time.
 use mathlib.Core.Path.{_≡_}
 use mathlib.Core.Bool.{cond}
-use mathlib.Core.List.{List, [], _∷_, _++_}
+use mathlib.Core.List.{List, [], _∷_, _++_, map}
 use Prim.Native.Nat.{ℕ, _+_}
-use lib.IntN.{ℤ}
+use lib.IntN.{ℤ, pos}
 use Rattle.std.specs.declared.alloc.Global.{Global}
 use Rattle.std.specs.declared.result.Result.{Result}
 use Rattle.std.specs.declared.result.Result.the-variants.{Ok, Err}
@@ -19,15 +19,19 @@ use Rattle.commands.specs.declared.ledger.Posting.the-variants.{Charge, HandBa
 use Rattle.commands.specs.declared.ledger.Refusal.{Refusal}
 use Rattle.commands.specs.declared.ledger.Refusal.the-variants.{Memory, OutOfRange}
 
--- the balance b after the priced time t is posted
-abbrev pub posted : Posting → ℤ → PricedTime → ℤ
-posted Charge b t = charged b t
-posted HandBack b t = handedBack b t
+-- the worth of each period's priced time
+abbrev pub worths : List PricedTime → List ℕ
+worths times = map worth times
 
--- the balance b after each period's time is posted the same way
-abbrev pub balanceAfter : Posting → ℤ → List PricedTime → ℤ
+-- the balance b after a worth of n K-ths is posted
+abbrev pub posted : Posting → ℤ → ℕ → ℤ
+posted Charge b n = charged b n
+posted HandBack b n = handedBack b n
+
+-- the balance b after each period's worth is posted the same way
+abbrev pub balanceAfter : Posting → ℤ → List ℕ → ℤ
 balanceAfter way b [] = b
-balanceAfter way b (t ∷ ts) = balanceAfter way (posted way b t) ts
+balanceAfter way b (n ∷ ns) = balanceAfter way (posted way b n) ns
 
 -- a balance that postings of one way can not be brought to: charging passes the range's top, handing back its bottom
 abbrev pub Beyond : Posting → ℤ → Type 0
@@ -35,24 +39,24 @@ Beyond Charge v = TooHigh v
 Beyond HandBack v = TooLow v
 
 -- the entry of one posting
-abbrev pub entry : Posting → ℕ → ℤ → PricedTime → Entry
-entry way period b t = record { period = period; posting = way; amount = inKths (worth t); balance = inKths (posted way b t) }
+abbrev pub entry : Posting → ℕ → ℤ → ℕ → Entry
+entry way period b n = record { period = period; posting = way; amount = inKths (pos n); balance = inKths (posted way b n) }
 
 -- the answer to one posting: its entry, or a refusal where the balance would be out of range
-abbrev pub postedEntry : Posting → ℕ → ℤ → PricedTime → Result Entry TooLarge
-postedEntry way period b t = cond (inRange (posted way b t)) (Ok (entry way period b t)) (Err (record {}))
+abbrev pub postedEntry : Posting → ℕ → ℤ → ℕ → Result Entry TooLarge
+postedEntry way period b n = cond (inRange (posted way b n)) (Ok (entry way period b n)) (Err (record {}))
 
 -- the entries of those postings, from a period on
-abbrev pub entries : Posting → ℕ → ℤ → List PricedTime → List Entry
+abbrev pub entries : Posting → ℕ → ℤ → List ℕ → List Entry
 entries way period b [] = []
-entries way period b (t ∷ ts) = entry way period b t ∷ entries way (period + 1) (posted way b t) ts
+entries way period b (n ∷ ns) = entry way period b n ∷ entries way (period + 1) (posted way b n) ns
 
--- the ledger of times that are all charged to a balance b, and then all handed back
-abbrev pub outAndBack : ℤ → List PricedTime → List Entry
-outAndBack b ts = entries Charge 0 b ts ++ entries HandBack 0 (balanceAfter Charge b ts) ts
+-- the ledger of worths that are all charged to a balance b, and then all handed back
+abbrev pub outAndBack : ℤ → List ℕ → List Entry
+outAndBack b ns = entries Charge 0 b ns ++ entries HandBack 0 (balanceAfter Charge b ns) ns
 
--- what charging ts to a balance b and handing them back answers: the ledger, or a refusal for its own cause
-abbrev pub Answers : Result (Vec Entry Global) Refusal → ℤ → List PricedTime → Type 0
-Answers (Ok ledger) b ts = vec-items ledger ≡ outAndBack b ts
-Answers (Err Memory) b ts = Unit {0}
-Answers (Err OutOfRange) b ts = TooHigh (balanceAfter Charge b ts)
+-- what charging the worths ns to a balance b and handing them back answers: the ledger, or a refusal for its own cause
+abbrev pub Answers : Result (Vec Entry Global) Refusal → ℤ → List ℕ → Type 0
+Answers (Ok ledger) b ns = vec-items ledger ≡ outAndBack b ns
+Answers (Err Memory) b ns = Unit {0}
+Answers (Err OutOfRange) b ns = TooHigh (balanceAfter Charge b ns)

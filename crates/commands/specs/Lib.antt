@@ -1,1 +1,3 @@
 pub mod Ledger
+pub mod Statements
+pub mod Texts

@@ -10,20 +10,20 @@ use Rattle.money.specs.declared.priced.PricedTime.{PricedTime}
 use Rattle.money.specs.Range.{inRange, inKths}
 
 -- price × minutes, in K-ths
-abbrev pub worth : PricedTime → ℤ
-worth t = pos (t .price .kths * t .minutes .count)
+abbrev pub worth : PricedTime → ℕ
+worth t = t .price .kths * t .minutes .count
 
--- the balance b after the priced time t is charged
-abbrev pub charged : ℤ → PricedTime → ℤ
-charged b t = b +ℤ worth t
+-- the balance b after a worth of n K-ths is charged
+abbrev pub charged : ℤ → ℕ → ℤ
+charged b n = b +ℤ pos n
 
--- the balance b after the priced time t is handed back
-abbrev pub handedBack : ℤ → PricedTime → ℤ
-handedBack b t = b -ℤ worth t
+-- the balance b after a worth of n K-ths is handed back
+abbrev pub handedBack : ℤ → ℕ → ℤ
+handedBack b n = b -ℤ pos n
 
--- the answer to a posting of t that would bring the balance to v: what t is worth, or a refusal where v is out of range
-abbrev pub answered : ℤ → PricedTime → Result ScaledMoney OutOfRange
-answered v t = cond (inRange v) (Ok (inKths (worth t))) (Err (record {}))
+-- the answer to a posting of n K-ths that would bring the balance to v: n, or a refusal where v is out of range
+abbrev pub answered : ℤ → ℕ → Result ScaledMoney OutOfRange
+answered v n = cond (inRange v) (Ok (inKths (pos n))) (Err (record {}))
 
 -- the balance after such a posting: v, or as it was where v is out of range
 abbrev pub balanced : ScaledMoney → ℤ → ScaledMoney

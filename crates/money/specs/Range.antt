@@ -1,7 +1,7 @@
 -- Exact results, and the range in which they are kept.
-use mathlib.Core.Bool.{Bool, cond}
+use mathlib.Core.Bool.{Bool, false, cond}
 use Prim.Native.Nat.{ℕ, _^_}
-use lib.Dec.{ltb}
+use lib.Dec.{eqb, ltb}
 use lib.IntN.{ℤ, pos, negsuc, negℤ}
 use lib.Signed.{_≤ℤ_, _<ℤ_}
 use Rattle.std.specs.declared.result.Result.{Result}
@@ -17,6 +17,11 @@ whole v = record { units = v }
 -- money of this many K-ths
 abbrev pub inKths : ℤ → ScaledMoney
 inKths v = record { kths = v }
+
+-- nothing is owed either way
+abbrev pub isZero : ℤ → Bool
+isZero (pos n) = eqb n 0
+isZero (negsuc n) = false
 
 -- from -2^63 to 2^63 - 1
 abbrev pub inRange : ℤ → Bool

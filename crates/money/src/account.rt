@@ -1,6 +1,7 @@
 // The account of priced time: minutes are charged to it at a price, and handed back from it at a price.
 ghost use mathlib.Core.Path.{_≡_};
 ghost use mathlib.Core.Bool.{true};
+ghost use lib.IntN.{pos};
 ghost use Rattle.money.specs.Postings.{worth, charged, handedBack, answered, balanced};
 ghost use Rattle.money.specs.Range.{inKths, inRange, TooHigh, TooLow};
 ghost use Rattle.std.specs.Vec.{refused};
@@ -13,7 +14,7 @@ use crate::priced::PricedTime;
 impl PricedTime {
     // Price times minutes.
     pub fn worth(self) -> ScaledMoney
-        ensures { λ r. ⌜ r ≡ inKths (worth self) ⌝ }
+        ensures { λ r. ⌜ r ≡ inKths (pos (worth self)) ⌝ }
     {
         let kths = self.price.kths() as u64 * self.minutes.count() as u64;
         ScaledMoney::new(kths as i64)
@@ -42,9 +43,9 @@ impl TimeAccount {
 
     // Charges the minutes at their price, and answers what that came to.
     pub fn charge(&mut self, time: PricedTime) -> Result<ScaledMoney, OutOfRange>
-        ensures answer { λ r. ⌜ r ≡ answered (charged (now (self .entry) .balance .kths) time) time ⌝ }
-        ensures balance { λ _. ⌜ now (self .exit) .balance ≡ balanced (now (self .entry) .balance) (charged (now (self .entry) .balance .kths) time) ⌝ }
-        ensures cause { λ r. ⌜ refused r (λ _. TooHigh (charged (now (self .entry) .balance .kths) time)) ⌝ }
+        ensures answer { λ r. ⌜ r ≡ answered (charged (now (self .entry) .balance .kths) (worth time)) (worth time) ⌝ }
+        ensures balance { λ _. ⌜ now (self .exit) .balance ≡ balanced (now (self .entry) .balance) (charged (now (self .entry) .balance .kths) (worth time)) ⌝ }
+        ensures cause { λ r. ⌜ refused r (λ _. TooHigh (charged (now (self .entry) .balance .kths) (worth time))) ⌝ }
     {
         let amount = time.worth();
         self.balance = self.balance.checked_add(amount)?;
@@ -53,9 +54,9 @@ impl TimeAccount {
 
     // Hands the minutes back at their price, and answers what that came to.
     pub fn hand_back(&mut self, time: PricedTime) -> Result<ScaledMoney, OutOfRange>
-        ensures answer { λ r. ⌜ r ≡ answered (handedBack (now (self .entry) .balance .kths) time) time ⌝ }
-        ensures balance { λ _. ⌜ now (self .exit) .balance ≡ balanced (now (self .entry) .balance) (handedBack (now (self .entry) .balance .kths) time) ⌝ }
-        ensures cause { λ r. ⌜ refused r (λ _. TooLow (handedBack (now (self .entry) .balance .kths) time)) ⌝ }
+        ensures answer { λ r. ⌜ r ≡ answered (handedBack (now (self .entry) .balance .kths) (worth time)) (worth time) ⌝ }
+        ensures balance { λ _. ⌜ now (self .exit) .balance ≡ balanced (now (self .entry) .balance) (handedBack (now (self .entry) .balance .kths) (worth time)) ⌝ }
+        ensures cause { λ r. ⌜ refused r (λ _. TooLow (handedBack (now (self .entry) .balance .kths) (worth time))) ⌝ }
     {
         let amount = time.worth();
         self.balance = self.balance.checked_sub(amount)?;

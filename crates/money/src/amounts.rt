@@ -3,7 +3,7 @@ ghost use mathlib.Core.Path.{_≡_};
 ghost use lib.IntN.{pos, _+ℤ_, _-ℤ_, _*ℤ_};
 ghost use Rattle.std.specs.Written.{signed};
 ghost use Rattle.std.specs.declared.option.Option.the-variants.{Some};
-ghost use Rattle.money.specs.Range.{exactly, whole, inKths};
+ghost use Rattle.money.specs.Range.{exactly, whole, inKths, isZero};
 ghost use Rattle.money.specs.Rounding.{dividedUp, RoundedUp};
 use crate::scales::Scale;
 use std::fmt;
@@ -83,6 +83,12 @@ impl ScaledMoney {
             Some(kths) => Ok(ScaledMoney { kths }),
             None => Err(OutOfRange),
         }
+    }
+
+    pub fn is_zero(self) -> bool
+        ensures { λ r. ⌜ r ≡ isZero (self .kths) ⌝ }
+    {
+        self.kths == 0
     }
 
     // The whole money of these K-ths, rounded up: the one division.

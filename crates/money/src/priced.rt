@@ -56,6 +56,13 @@ impl Minutes {
         }
     }
 
+    // One minute.
+    pub fn one() -> Minutes
+        ensures { λ r. ⌜ r .count ≡ 1 ⌝ }
+    {
+        Minutes { count: 1 }
+    }
+
     pub fn count(self) -> u32
         ensures { λ r. ⌜ r ≡ self .count ⌝ }
     {

@@ -1,5 +1,6 @@
 use borrow.Author.Needs.{needs}
 use Rattle.std.proofs.shelf.Results.{err-from-errBy}
+use Rattle.money.specs.Postings.{worth}
 use Rattle.commands.proofs.Steps.{no-more, one-more, all-beyond, was-posted, balanced-is}
 use Rattle.commands.proofs.ledger.post_all.Needs as need
 
@@ -11,7 +12,7 @@ returns-in-Break-entry c =
 
 pub loop-period-again : need.loop-period-again
 loop-period-again c =
-    let o = was-posted (c .args .posting) (c .loop-period .period) (c .loop-period .account .balance) (c .index-times-period .result) _ (c .post .ensures .answer) _ (c .in-Continue-entry .was tt) in
+    let o = was-posted (c .args .posting) (c .loop-period .period) (c .loop-period .account .balance) (worth (c .index-times-period .result)) _ (c .post .ensures .answer) _ (c .in-Continue-entry .was tt) in
     one-more _ _ _ _ _ _ _ (c .index-times-period .result) (c .loop-period-test .taken) (c .index-times-period .is) (c .loop-period .inv)
     _ _ _ (c .in-Continue-push .ensures tt .items) (o .1) (balanced-is _ _ _ (o .0) (c .post .ensures .balance))
 

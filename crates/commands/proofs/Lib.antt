@@ -1,3 +1,6 @@
 pub mod Balances
 pub mod Lines
+pub mod Numbers
+pub mod Requests
 pub mod Steps
+pub mod WordSteps

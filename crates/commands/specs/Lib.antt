@@ -1,3 +1,4 @@
 pub mod Ledger
+pub mod Meanings
 pub mod Statements
 pub mod Texts

@@ -1,9 +1,15 @@
 // The program's commands: words in, text out.
+mod errors;
 mod ledger;
 mod minute;
+mod words;
 
+pub use errors::CommandError;
+pub use errors::Misuse;
 pub use ledger::Entry;
 pub use ledger::Posting;
 pub use ledger::Refusal;
 pub use ledger::out_and_back;
 pub use minute::Statement;
+pub use words::MinuteRequest;
+pub use words::minute_request;

@@ -44,10 +44,10 @@ module _ {E : Type 0} (k : ℕ) (limit : ℕ → Option ℕ) (bs : List ℕ) (r 
   unfolding test
   at-no-number e above was = by-test (test (afterPlus bs)) refl
     where
-    by-test : (b : Bool) → test (afterPlus bs) ≡ b → limited limit (cond b (Some (value 10 (afterPlus bs))) None) ≡ None
-    by-test false t = refl
-    by-test true t =
-        elim (cases-lt (value 10 (afterPlus bs)) (2 ^ k))
-        [ inl low ↦ absurd (converted-at-err r _ _ e reads was (to-numeral (afterPlus bs) t, low))
-        | inr high ↦ above (value 10 (afterPlus bs)) high
-        ]
+      by-test : (b : Bool) → test (afterPlus bs) ≡ b → limited limit (cond b (Some (value 10 (afterPlus bs))) None) ≡ None
+      by-test false t = refl
+      by-test true t =
+          elim (cases-lt (value 10 (afterPlus bs)) (2 ^ k)) [
+            | inl low ↦ absurd (converted-at-err r _ _ e reads was (to-numeral (afterPlus bs) t, low))
+            | inr high ↦ above (value 10 (afterPlus bs)) high
+          ]

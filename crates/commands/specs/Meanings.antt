@@ -76,13 +76,16 @@ abbrev pub minuteWords : List (List ℕ) → Result Minute Misuse
 minuteWords [] = Err NoScale
 minuteWords (w ∷ ws) = priceWords (scaleWord w) ws
 
--- an answer that is what the words mean, unless memory was short
-abbrev pub Minutes-mean : Result (Vec PricedTime Global) CommandError → Result (List ℕ) Misuse → Type 0
-Minutes-mean (Ok times) meant = meant ≡ Ok (worths (vec-items times))
-Minutes-mean (Err Memory) meant = Unit {0}
-Minutes-mean (Err (Misused m)) meant = meant ≡ Err m
+-- the worths of the priced times that an answer holds
+abbrev pub worthsIn : Vec PricedTime Global → List ℕ
+worthsIn times = worths (vec-items times)
 
-abbrev pub Words-mean : Result MinuteRequest CommandError → Result Minute Misuse → Type 0
-Words-mean (Ok q) meant = meant ≡ Ok (record { scale = q .scale .k; worths = worths (vec-items (q .times)) })
-Words-mean (Err Memory) meant = Unit {0}
-Words-mean (Err (Misused m)) meant = meant ≡ Err m
+-- the request that an answer holds
+abbrev pub requestIn : MinuteRequest → Minute
+requestIn q = record { scale = q .scale .k; worths = worthsIn (q .times) }
+
+-- r is what was meant, by what `held` reads of it, unless memory was short
+abbrev pub Means : {X Y : Type 0} → (X → Y) → Result X CommandError → Result Y Misuse → Type 0
+Means held (Ok x) meant = meant ≡ Ok (held x)
+Means held (Err Memory) meant = Unit {0}
+Means held (Err (Misused m)) meant = meant ≡ Err m

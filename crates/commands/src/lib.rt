@@ -1,10 +1,13 @@
 // The program's commands: words in, text out.
+mod dispatch;
 mod errors;
 mod ledger;
 mod minute;
 mod words;
 
+pub use dispatch::run;
 pub use errors::CommandError;
+pub use errors::CommandErrorDisplay;
 pub use errors::Misuse;
 pub use ledger::Entry;
 pub use ledger::Posting;

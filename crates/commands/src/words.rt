@@ -7,7 +7,7 @@ ghost use Rattle.std.specs.Options.{mapped};
 ghost use Rattle.std.specs.Vec.{made};
 ghost use Rattle.std.specs.declared.option.Option.the-variants.{Some};
 ghost use Rattle.commands.specs.declared.errors.CommandError.the-variants.{Memory};
-ghost use Rattle.commands.specs.Meanings.{texts, scaleWord, priceWord, oneMinute, priceWords, minuteWords, Minutes-mean, Words-mean};
+ghost use Rattle.commands.specs.Meanings.{texts, scaleWord, priceWord, oneMinute, priceWords, minuteWords, worthsIn, requestIn, Means};
 use crate::errors::CommandError;
 use crate::errors::CommandErrorFromAlloc;
 use crate::errors::CommandErrorFromRefused;
@@ -45,7 +45,7 @@ fn price_word(word: &str) -> Option<CapacityPrice>
 
 // One minute at each word's price.
 fn one_minute_each(heap: Global, words: &[String]) -> Result<Vec<PricedTime>, CommandError>
-    ensures means { λ r. ⌜ Minutes-mean r (oneMinute 0 (texts (now (words .entry)))) ⌝ }
+    ensures means { λ r. ⌜ Means worthsIn r (oneMinute 0 (texts (now (words .entry)))) ⌝ }
     ensures len { λ r. ⌜ made r (λ v. vec-len v ≡ length (now (words .entry))) ⌝ }
 {
     let mut times = Vec::new(heap);
@@ -53,14 +53,17 @@ fn one_minute_each(heap: Global, words: &[String]) -> Result<Vec<PricedTime>, Co
         let Some(price) = price_word(word.as_str()) else {
             return Err(CommandError::Misused(Misuse::BadPrice(period)));
         };
-        times.push(PricedTime { price, minutes: Minutes::one() })?;
+        times.push(PricedTime {
+            price,
+            minutes: Minutes::one(),
+        })?;
     }
     Ok(times)
 }
 
 // The prices after a scale: 1 to 32 of them.
 fn price_words(heap: Global, scale: Scale, words: &[String]) -> Result<MinuteRequest, CommandError>
-    ensures means { λ r. ⌜ Words-mean r (priceWords (Some (scale .k)) (texts (now (words .entry)))) ⌝ }
+    ensures means { λ r. ⌜ Means requestIn r (priceWords (Some (scale .k)) (texts (now (words .entry)))) ⌝ }
     ensures few { λ r. ⌜ made r (λ q. vec-len (q .times) ≤ 32) ⌝ }
 {
     if words.is_empty() {
@@ -75,7 +78,7 @@ fn price_words(heap: Global, scale: Scale, words: &[String]) -> Result<MinuteReq
 
 // Reads `SCALE PRICE...`.
 pub fn minute_request(heap: Global, words: &[String]) -> Result<MinuteRequest, CommandError>
-    ensures means { λ r. ⌜ Words-mean r (minuteWords (texts (now (words .entry)))) ⌝ }
+    ensures means { λ r. ⌜ Means requestIn r (minuteWords (texts (now (words .entry)))) ⌝ }
     ensures few { λ r. ⌜ made r (λ q. vec-len (q .times) ≤ 32) ⌝ }
 {
     let [scale, prices @ ..] = words else {

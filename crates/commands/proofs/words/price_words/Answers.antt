@@ -18,14 +18,14 @@ pub returns-in-Break-times : need.returns-in-Break-times
 returns-in-Break-times c =
     let p = err-from-errBy (c .from-residual .result) (c .from-residual .ensures .1) in
     rw (p .1, p .2)
-    (record
-    { means = refused-price (c .args .scale .k) (c .args .words .now) (sym (c .if-is-empty .ensures tt)) (c .if-words-gt32 .left) _ (c .in-Break-times .ensures tt .means)
-    ; few = tt
+    (record {
+      means = refused-price (c .args .scale .k) (c .args .words .now) (sym (c .if-is-empty .ensures tt)) (c .if-words-gt32 .left) _ (c .in-Break-times .ensures tt .means);
+      few = tt;
     })
 
 pub returns : need.returns
 returns c =
-    record
-    { means = priced (c .args .scale .k) (c .args .words .now) (sym (c .if-is-empty .ensures tt)) (c .if-words-gt32 .left) ∙ ap (atScale (c .args .scale .k)) (c .in-Continue-times .ensures tt .means)
-    ; few = omega (arith, c .in-Continue-times .ensures tt .len)
+    record {
+      means = priced (c .args .scale .k) (c .args .words .now) (sym (c .if-is-empty .ensures tt)) (c .if-words-gt32 .left) ∙ ap (atScale (c .args .scale .k)) (c .in-Continue-times .ensures tt .means);
+      few = omega (arith, c .in-Continue-times .ensures tt .len);
     }

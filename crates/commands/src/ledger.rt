@@ -11,7 +11,9 @@ ghost use Rattle.commands.specs.Ledger.{worths, posted, postedEntry, Beyond, e
 use money::OutOfRange;
 use money::PricedTime;
 use money::ScaledMoney;
+use money::ScaledMoneyDebug;
 use money::ScaledMoneyDisplay;
+use money::ScaledMoneyPartialEq;
 use money::TimeAccount;
 use std::alloc::AllocError;
 use std::alloc::Global;
@@ -19,14 +21,14 @@ use std::alloc::Refused;
 use std::fmt;
 
 // Which way priced time is posted.
-#[derive(Clone, Copy)]
+#[derive(Clone, Copy, Debug, PartialEq, Eq)]
 pub enum Posting {
     Charge,
     HandBack,
 }
 
 // One posting: what it came to, and the balance after it.
-#[derive(Clone, Copy)]
+#[derive(Clone, Copy, Debug, PartialEq, Eq)]
 pub struct Entry {
     pub period: usize,
     pub posting: Posting,
@@ -62,7 +64,7 @@ pub impl fmt::Display for Entry as EntryDisplay {
 }
 
 // Why a ledger was not made.
-#[derive(Clone, Copy)]
+#[derive(Clone, Copy, Debug, PartialEq, Eq)]
 pub enum Refusal {
     Memory,
     OutOfRange,

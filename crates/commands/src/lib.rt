@@ -12,6 +12,8 @@ pub use errors::Misuse;
 pub use ledger::Entry;
 pub use ledger::Posting;
 pub use ledger::Refusal;
+pub use ledger::RefusalDebug;
+pub use ledger::RefusalPartialEq;
 pub use ledger::out_and_back;
 pub use minute::Statement;
 pub use words::MinuteRequest;

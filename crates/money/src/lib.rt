@@ -3,6 +3,8 @@ mod account;
 mod amounts;
 mod priced;
 mod scales;
+#[cfg(test)]
+mod tests;
 
 pub use account::TimeAccount;
 pub use amounts::Money;

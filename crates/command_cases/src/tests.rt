@@ -49,55 +49,48 @@ fn prices_a_minute_out_and_back(rt: LibcRuntime) -> Result<(), Fail> {
     Ok(())
 }
 
-#[test]
-fn says_what_is_wrong(rt: LibcRuntime) -> Result<(), Fail> {
-    let cases = [
-        ("weigh", "the verb is not known"),
-        ("MINUTE 3 1", "the verb is not known"),
-        ("minute", "the scale is missing"),
-        (
-            "minute 0 1",
-            "the scale is not a whole number from 1 to 1000",
-        ),
-        (
-            "minute 1001 1",
-            "the scale is not a whole number from 1 to 1000",
-        ),
-        (
-            "minute 65536 1",
-            "the scale is not a whole number from 1 to 1000",
-        ),
-        (
-            "minute three 1",
-            "the scale is not a whole number from 1 to 1000",
-        ),
-        ("minute 3", "the prices are missing"),
-        (
-            "minute 3 1 100001",
-            "the price of period 1 is not a whole number from 0 to 100000",
-        ),
-        (
-            "minute 3 4294967296 x",
-            "the price of period 0 is not a whole number from 0 to 100000",
-        ),
-        (
-            "minute 3 -1",
-            "the price of period 0 is not a whole number from 0 to 100000",
-        ),
-        (
-            "minute 3 1.5",
-            "the price of period 0 is not a whole number from 0 to 100000",
-        ),
-        (
-            "minute 3 0 1 2 3 4 5 6 7 8 9 10 11 12 13 14 15 16 17 18 19 20 21 22 23 24 25 26 27 28 29 30 31 32",
-            "there are more than 32 prices",
-        ),
-    ];
+// Each line is refused for what is wrong with it.
+fn check_wrong(heap: Global, cases: &[(&str, &str)]) -> Result<(), Fail> {
     for (line, wrong) in cases {
-        let expected = format!(rt.alloc(), "{wrong}; usage: lotaudit minute SCALE PRICE...")?;
-        check_eq(answer(rt.alloc(), line)?.as_str(), expected.as_str()).note(line)?;
+        let expected = format!(heap, "{wrong}; usage: lotaudit minute SCALE PRICE...")?;
+        check_eq(answer(heap, line)?.as_str(), expected.as_str()).note(*line)?;
     }
     Ok(())
+}
+
+#[test]
+fn names_a_wrong_verb_or_scale(rt: LibcRuntime) -> Result<(), Fail> {
+    let verb = "the verb is not known";
+    let scale = "the scale is not a whole number from 1 to 1000";
+    let cases = [
+        ("weigh", verb),
+        ("MINUTE 3 1", verb),
+        ("minute", "the scale is missing"),
+        ("minute 0 1", scale),
+        ("minute 1001 1", scale),
+        ("minute 65536 1", scale),
+        ("minute three 1", scale),
+        ("minute 1001", scale),
+    ];
+    check_wrong(rt.alloc(), &cases)
+}
+
+#[test]
+fn names_a_wrong_price(rt: LibcRuntime) -> Result<(), Fail> {
+    let first = "the price of period 0 is not a whole number from 0 to 100000";
+    let second = "the price of period 1 is not a whole number from 0 to 100000";
+    let many =
+        "minute 3 0 1 2 3 4 5 6 7 8 9 10 11 12 13 14 15 16 17 18 19 20 21 22 23 24 25 26 27 28 29 30 31 x";
+    let cases = [
+        ("minute 3", "the prices are missing"),
+        (many, "there are more than 32 prices"),
+        ("minute 3 1 100001", second),
+        ("minute 3 1 x y", second),
+        ("minute 3 4294967296 x", first),
+        ("minute 3 -1", first),
+        ("minute 3 1.5", first),
+    ];
+    check_wrong(rt.alloc(), &cases)
 }
 
 #[test]

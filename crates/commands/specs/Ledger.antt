@@ -2,17 +2,19 @@
 use mathlib.Core.Path.{_≡_}
 use mathlib.Core.Bool.{cond}
 use mathlib.Core.List.{List, [], _∷_, _++_, map}
-use Prim.Native.Nat.{ℕ, _+_}
-use lib.IntN.{ℤ, pos}
+use Prim.Native.Nat.{ℕ, _+_, _^_}
+use lib.IntN.{ℤ, pos, negℤ, _+ℤ_}
+use lib.Signed.{_≤ℤ_, _<ℤ_}
 use Rattle.std.specs.declared.alloc.Global.{Global}
 use Rattle.std.specs.declared.result.Result.{Result}
 use Rattle.std.specs.declared.result.Result.the-variants.{Ok, Err}
 use Rattle.std.specs.declared.vec.Vec.{Vec}
 use Rattle.std.specs.Of.Vec.{vec-items}
+use Rattle.std.specs.shelf.Lists.{sum}
 use Rattle.money.specs.declared.amounts.OutOfRange.{OutOfRange as TooLarge}
 use Rattle.money.specs.declared.priced.PricedTime.{PricedTime}
 use Rattle.money.specs.Postings.{worth, charged, handedBack}
-use Rattle.money.specs.Range.{inRange, inKths, TooHigh, TooLow}
+use Rattle.money.specs.Range.{inRange, inKths}
 use Rattle.commands.specs.declared.ledger.Entry.{Entry}
 use Rattle.commands.specs.declared.ledger.Posting.{Posting}
 use Rattle.commands.specs.declared.ledger.Posting.the-variants.{Charge, HandBack}
@@ -33,10 +35,14 @@ abbrev pub balanceAfter : Posting → ℤ → List ℕ → ℤ
 balanceAfter way b [] = b
 balanceAfter way b (n ∷ ns) = balanceAfter way (posted way b n) ns
 
--- a balance that postings of one way can not be brought to: charging passes the range's top, handing back its bottom
+-- the balance b when all the worths ns are out
+abbrev pub allOut : ℤ → List ℕ → ℤ
+allOut b ns = b +ℤ pos (sum ns)
+
+-- charging leaves the range of 64 bits at its top, handing back at its bottom
 abbrev pub Beyond : Posting → ℤ → Type 0
-Beyond Charge v = TooHigh v
-Beyond HandBack v = TooLow v
+Beyond Charge v = pos (2 ^ 63) ≤ℤ v
+Beyond HandBack v = v <ℤ negℤ (pos (2 ^ 63))
 
 -- the entry of one posting
 abbrev pub entry : Posting → ℕ → ℤ → ℕ → Entry
@@ -59,4 +65,4 @@ outAndBack b ns = entries Charge 0 b ns ++ entries HandBack 0 (balanceAfter Char
 abbrev pub Answers : Result (Vec Entry Global) Refusal → ℤ → List ℕ → Type 0
 Answers (Ok ledger) b ns = vec-items ledger ≡ outAndBack b ns
 Answers (Err Memory) b ns = Unit {0}
-Answers (Err OutOfRange) b ns = TooHigh (balanceAfter Charge b ns)
+Answers (Err OutOfRange) b ns = Beyond Charge (allOut b ns)

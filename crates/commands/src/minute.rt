@@ -6,10 +6,9 @@ ghost use lib.ListN.{length};
 ghost use Rattle.std.specs.Of.String.{string-bytes};
 ghost use Rattle.std.specs.Of.Vec.{vec-items};
 ghost use Rattle.std.specs.Vec.{made, refused};
-ghost use Rattle.money.specs.Range.{TooHigh};
 ghost use Rattle.commands.specs.declared.ledger.Posting.the-variants.{Charge};
 ghost use Rattle.commands.specs.declared.ledger.Refusal.the-variants.{Memory, OutOfRange};
-ghost use Rattle.commands.specs.Ledger.{worths, balanceAfter};
+ghost use Rattle.commands.specs.Ledger.{worths, allOut, Beyond};
 ghost use Rattle.commands.specs.Statements.{Closed};
 ghost use Rattle.commands.specs.Texts.{statementText, balanceText, closing};
 use crate::ledger::Entry;
@@ -39,7 +38,7 @@ impl Statement {
     // Opens an account at zero, charges every period's minutes out and hands the same back.
     pub fn new(heap: Global, scale: Scale, times: &[PricedTime]) -> Result<Statement, Refusal>
         ensures closed { λ r. ⌜ made r (λ s. Closed (scale .k) (worths (now (times .entry))) s) ⌝ }
-        ensures cause { λ r. ⌜ refused r (λ e. e ≡ OutOfRange → TooHigh (balanceAfter Charge (pos 0) (worths (now (times .entry))))) ⌝ }
+        ensures cause { λ r. ⌜ refused r (λ e. e ≡ OutOfRange → Beyond Charge (allOut (pos 0) (worths (now (times .entry))))) ⌝ }
         ensures few { λ r. ⌜ (length (now (times .entry)) ≤ 32 → refused r (λ e. e ≡ Memory)) ⌝ }
     {
         let mut account = TimeAccount::new(ScaledMoney::new(0));

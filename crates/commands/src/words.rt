@@ -18,6 +18,9 @@ use money::PricedTime;
 use money::Scale;
 use std::alloc::Global;
 
+// The most periods that a command takes.
+const PERIODS: usize = 32;
+
 // What `minute` was asked for: a scale, and each period's minute at its price.
 #[derive(Drop)]
 pub struct MinuteRequest {
@@ -69,7 +72,7 @@ fn price_words(heap: Global, scale: Scale, words: &[String]) -> Result<MinuteReq
     if words.is_empty() {
         return Err(CommandError::Misused(Misuse::NoPrice));
     }
-    if words.len() > 32 {
+    if words.len() > PERIODS {
         return Err(CommandError::Misused(Misuse::TooManyPrices));
     }
     let times = one_minute_each(heap, words)?;

@@ -10,6 +10,7 @@ use mir.Val.{toZ, ofZ, SFits}
 use mir.Syntax.{w64}
 use Rattle.std.proofs.shelf.Signed.{ints, toZ-ofZ, toZ-pos}
 use Rattle.std.proofs.shelf.Bits.{div-below, le-div}
+use Rattle.money.specs.Range.{whole}
 use Rattle.money.specs.Rounding.{dividedUp, RoundedUp}
 
 -- ---- the defining property
@@ -31,7 +32,7 @@ least-below a k h (pos m) e = omega (arith, ints)
 least-below a k h (negsuc m) e =
     let p : suc m * k ≤ suc a = omega (arith, ints) in let d = le-div (suc m) (suc a) k h p in omega (arith, ints)
 
-pub rounded-up : (v : ℤ) (k : ℕ) → 1 ≤ k → RoundedUp v k (dividedUp v k)
+rounded-up : (v : ℤ) (k : ℕ) → 1 ≤ k → RoundedUp v k (dividedUp v k)
 rounded-up (pos zero) k h = record { reaches = let z = zero-mul k in omega (arith, ints); least = least-zero k h }
 rounded-up (pos (suc a)) k h =
     record {
@@ -59,7 +60,7 @@ quot-low (pos zero) k h = ap pos (zero-div k)
 quot-low (pos (suc a)) k h = let z : _≡_ {A = ℕ} 0 1 = omega (arith, ints) in absurd (omega arith)
 quot-low (negsuc a) k h = refl
 
-pub not-above-zero : (v : ℤ) (k : ℕ) → SFits w64 v → k < 65536 → leZ (toZ w64 (ofZ w64 v)) (pos 0) ≡ true
+not-above-zero : (v : ℤ) (k : ℕ) → SFits w64 v → k < 65536 → leZ (toZ w64 (ofZ w64 v)) (pos 0) ≡ true
     → toZ w64 (ofZ w64 (quotZ (toZ w64 (ofZ w64 v)) (toZ w64 k))) ≡ dividedUp v k
 not-above-zero v k f b e =
     let h = simp toZ-ofZ at e in
@@ -87,7 +88,7 @@ divided-sfits (pos zero) k f h = f
 divided-sfits (pos (suc a)) k f h = let d = div-le-self a k in let b = f .sfits in record { sfits = omega arith }
 divided-sfits (negsuc a) k f h = let z : _≡_ {A = ℕ} 0 1 = omega (arith, ints) in absurd (omega arith)
 
-pub above-zero : (v : ℤ) (k : ℕ) → SFits w64 v → k < 65536 → leZ (toZ w64 (ofZ w64 v)) (pos 0) ≡ false
+above-zero : (v : ℤ) (k : ℕ) → SFits w64 v → k < 65536 → leZ (toZ w64 (ofZ w64 v)) (pos 0) ≡ false
     → toZ w64 (ofZ w64 (toZ w64 (ofZ w64 (quotZ (toZ w64 (ofZ w64 (toZ w64 (ofZ w64 v) -ℤ pos 1))) (toZ w64 k))) +ℤ pos 1)) ≡ dividedUp v k
 above-zero v k f b e =
     let h = simp toZ-ofZ at e in
@@ -100,6 +101,19 @@ above-zero v k f b e =
     let p = toZ-pos w64 k s in
     simp (toZ-ofZ, p) d
 
--- both promises of a result u, from what it is at the scale j that was read
-pub both : (u v : ℤ) (j k : ℕ) → j ≡ k → 1 ≤ k → u ≡ dividedUp v j → (u ≡ dividedUp v k) × RoundedUp v k u
-both u v j k e h d = let w : u ≡ dividedUp v k = rw e at d in (w, rw w (rounded-up v k h))
+-- ---- both promises, at the scale j that was read, which is k
+module _ (v : ℤ) (j k : ℕ) (f : SFits w64 v) (b : j < 65536) (e : j ≡ k) where
+  at-k : (u : ℤ) → u ≡ dividedUp v j → u ≡ dividedUp v k
+  at-k u d = rw e at d
+
+  pub low-value : leZ (toZ w64 (ofZ w64 v)) (pos 0) ≡ true → whole (toZ w64 (ofZ w64 (quotZ (toZ w64 (ofZ w64 v)) (toZ w64 j)))) ≡ whole (dividedUp v k)
+  low-value t = ap whole (at-k _ (not-above-zero v j f b t))
+
+  pub low-least : leZ (toZ w64 (ofZ w64 v)) (pos 0) ≡ true → 1 ≤ k → RoundedUp v k (toZ w64 (ofZ w64 (quotZ (toZ w64 (ofZ w64 v)) (toZ w64 j))))
+  low-least t h = rw (at-k _ (not-above-zero v j f b t)) (rounded-up v k h)
+
+  pub high-value : leZ (toZ w64 (ofZ w64 v)) (pos 0) ≡ false → whole (toZ w64 (ofZ w64 (toZ w64 (ofZ w64 (quotZ (toZ w64 (ofZ w64 (toZ w64 (ofZ w64 v) -ℤ pos 1))) (toZ w64 j))) +ℤ pos 1))) ≡ whole (dividedUp v k)
+  high-value t = ap whole (at-k _ (above-zero v j f b t))
+
+  pub high-least : leZ (toZ w64 (ofZ w64 v)) (pos 0) ≡ false → 1 ≤ k → RoundedUp v k (toZ w64 (ofZ w64 (toZ w64 (ofZ w64 (quotZ (toZ w64 (ofZ w64 (toZ w64 (ofZ w64 v) -ℤ pos 1))) (toZ w64 j))) +ℤ pos 1)))
+  high-least t h = rw (at-k _ (above-zero v j f b t)) (rounded-up v k h)

@@ -1,3 +1,2 @@
 pub mod Division
-pub mod Ranges
 pub mod Worths

@@ -7,6 +7,8 @@ use lib.IntN.{pos}
 use mir.Val.{toZ, SFits}
 use mir.Syntax.{w64}
 use Rattle.std.proofs.shelf.Signed.{toZ-pos}
+use Rattle.money.specs.declared.amounts.ScaledMoney.{ScaledMoney}
+use Rattle.money.specs.Range.{inKths}
 
 pub product-small : (a b : ℕ) → a ≤ 100000 → b ≤ 1000000000 → a * b ≤ 100000000000000
 product-small a b h k = mul-le-mul h k
@@ -15,7 +17,7 @@ module _ (a b p m : ℕ) (ea : a ≡ p) (eb : b ≡ m) (h : p ≤ 100000) (k : m
   pub product-sfits : SFits w64 (pos (a * b))
   product-sfits = let s = product-small a b (omega arith) (omega arith) in record { sfits = omega arith }
 
-  pub product-is : toZ w64 (a * b) ≡ pos (p * m)
-  product-is =
+  pub product-is : (r : ScaledMoney) → r ≡ inKths (toZ w64 (a * b)) → r ≡ inKths (pos (p * m))
+  product-is r e =
       let s = product-small a b (omega arith) (omega arith) in
-      toZ-pos w64 (a * b) (omega arith) ∙ ap pos (rw (ea, eb))
+      e ∙ ap inKths (toZ-pos w64 (a * b) (omega arith) ∙ ap pos (rw (ea, eb)))

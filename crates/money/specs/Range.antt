@@ -2,8 +2,7 @@
 use mathlib.Core.Bool.{Bool, false, cond}
 use Prim.Native.Nat.{ℕ, _^_}
 use lib.Dec.{eqb, ltb}
-use lib.IntN.{ℤ, pos, negsuc, negℤ}
-use lib.Signed.{_≤ℤ_, _<ℤ_}
+use lib.IntN.{ℤ, pos, negsuc}
 use Rattle.std.specs.declared.result.Result.{Result}
 use Rattle.std.specs.declared.result.Result.the-variants.{Ok, Err}
 use Rattle.money.specs.declared.amounts.Money.{Money}
@@ -27,14 +26,6 @@ isZero (negsuc n) = false
 abbrev pub inRange : ℤ → Bool
 inRange (pos n) = ltb n (2 ^ 63)
 inRange (negsuc n) = ltb n (2 ^ 63)
-
--- above that range
-abbrev pub TooHigh : ℤ → Type 0
-TooHigh v = pos (2 ^ 63) ≤ℤ v
-
--- below it
-abbrev pub TooLow : ℤ → Type 0
-TooLow v = v <ℤ negℤ (pos (2 ^ 63))
 
 -- exactly v as money of a kind, or a refusal where v is out of range
 abbrev pub exactly : {M : Type 0} → (ℤ → M) → ℤ → Result M OutOfRange

@@ -126,3 +126,9 @@ pub impl fmt::Display for ScaledMoney as ScaledMoneyDisplay {
         write!(f, "{kths}")
     }
 }
+
+pub impl fmt::Display for OutOfRange as OutOfRangeDisplay {
+    fn fmt<W: fmt::Write>(&self, f: &mut fmt::Formatter<W>) -> fmt::Result {
+        write!(f, "the exact amount does not fit 64 bits")
+    }
+}

@@ -12,6 +12,7 @@ pub use amounts::MoneyDebug;
 pub use amounts::MoneyDisplay;
 pub use amounts::MoneyPartialEq;
 pub use amounts::OutOfRange;
+pub use amounts::OutOfRangeDisplay;
 pub use amounts::ScaledMoney;
 pub use amounts::ScaledMoneyDebug;
 pub use amounts::ScaledMoneyDisplay;

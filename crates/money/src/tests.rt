@@ -4,12 +4,15 @@ use crate::account::TimeAccountDebug;
 use crate::account::TimeAccountPartialEq;
 use crate::amounts::Money;
 use crate::amounts::MoneyDebug;
+use crate::amounts::MoneyDisplay;
 use crate::amounts::MoneyPartialEq;
 use crate::amounts::OutOfRange;
 use crate::amounts::OutOfRangeDebug;
+use crate::amounts::OutOfRangeDisplay;
 use crate::amounts::OutOfRangePartialEq;
 use crate::amounts::ScaledMoney;
 use crate::amounts::ScaledMoneyDebug;
+use crate::amounts::ScaledMoneyDisplay;
 use crate::amounts::ScaledMoneyPartialEq;
 use crate::priced::CapacityPrice;
 use crate::priced::Minutes;
@@ -153,6 +156,16 @@ fn sums_refuse_to_wrap() -> Result<(), Fail> {
     check_eq(
         ScaledMoney::new(350).checked_sub(ScaledMoney::new(40)),
         Ok(ScaledMoney::new(310)),
+    )
+}
+
+#[test]
+fn prints_exactly(rt: LibcRuntime) -> Result<(), Fail> {
+    check_eq(Money::new(-33).to_string(rt.alloc())?.as_str(), "-33")?;
+    check_eq(ScaledMoney::new(310).to_string(rt.alloc())?.as_str(), "310")?;
+    check_eq(
+        OutOfRange.to_string(rt.alloc())?.as_str(),
+        "the exact amount does not fit 64 bits",
     )
 }
 

@@ -1,8 +1,15 @@
 use mathlib.Core.Path.{refl}
 use Rattle.std.proofs.shelf.Results.{err-from-errBy}
 use Rattle.commands.specs.Ledger.{worths}
-use Rattle.commands.proofs.Steps.{both-ways, came-back, back-within}
+use Rattle.commands.proofs.Balances.{out-refused}
+use Rattle.commands.proofs.Postings.{both-ways, came-back, back-within}
 use Rattle.commands.proofs.ledger.out_and_back.Needs as need
+
+pub returns-in-Break-post-all : need.returns-in-Break-post-all
+returns-in-Break-post-all c =
+    let p = err-from-errBy (c .from-residual .result) (c .from-residual .ensures .1) in
+    rw (p .1, p .2)
+    (record { answer = out-refused (c .args .account .now .balance .kths) (worths (c .args .times .now)) _ (c .in-Break-post-all .ensures tt .cause); same = refl })
 
 pub returns-in-Break-post-all-2 : need.returns-in-Break-post-all-2
 returns-in-Break-post-all-2 c =

@@ -1,7 +1,7 @@
 use mathlib.Core.List.{_++_}
 use Rattle.std.specs.Of.Vec.{vec-items}
 use Rattle.commands.specs.Ledger.{worths, entries, balanceAfter}
-use Rattle.commands.proofs.Steps.{Sofar}
+use Rattle.commands.proofs.Postings.{Sofar}
 use Rattle.commands.proofs.ledger.post_all.Given as given
 
 abbrev pub Inv-loop-period : given.InvT-loop-period

@@ -3,7 +3,7 @@ use native.Mathlib.Omega.{arith}
 use Rattle.std.specs.Of.Vec.{vec-items}
 use Rattle.commands.specs.Ledger.{worths}
 use Rattle.commands.specs.Meanings.{priceWord, oneMinute, texts}
-use Rattle.commands.proofs.WordSteps.{read-all, bad-price, one-read, pushed-minute}
+use Rattle.commands.proofs.Prices.{read-all, bad-price, one-read, pushed-minute}
 use Rattle.commands.proofs.words.one_minute_each.Needs as need
 
 pub returns-in-rest : need.returns-in-rest

@@ -2,7 +2,7 @@ use mathlib.Core.Path.{_≡_}
 use Rattle.std.specs.Of.Vec.{vec-items, vec-len}
 use Rattle.commands.specs.Ledger.{worths}
 use Rattle.commands.specs.Meanings.{texts, oneMinute}
-use Rattle.commands.proofs.WordSteps.{Read}
+use Rattle.commands.proofs.Prices.{Read}
 use Rattle.commands.proofs.words.one_minute_each.Given as given
 
 abbrev pub Inv-loop-period : given.InvT-loop-period

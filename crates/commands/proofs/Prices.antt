@@ -10,9 +10,10 @@ use Rattle.std.specs.declared.result.Result.{Result}
 use Rattle.std.specs.declared.result.Result.the-variants.{Ok, Err}
 use Rattle.std.specs.declared.string.String.{String}
 use Rattle.std.specs.Of.String.{string-bytes}
-use Rattle.std.proofs.shelf.Lists.{drop-all, drop-more, map-push}
+use Rattle.std.proofs.shelf.Lists.{drop-all, map-push}
 use Rattle.money.specs.declared.priced.PricedTime.{PricedTime}
 use Rattle.money.specs.Postings.{worth}
+use Rattle.commands.proofs.Lists.{drop-here}
 use Rattle.commands.specs.declared.errors.Misuse.{Misuse}
 use Rattle.commands.specs.declared.errors.Misuse.the-variants.{BadPrice}
 use Rattle.commands.specs.Ledger.{worths}
@@ -38,8 +39,7 @@ module _ (words : List (String Global)) (all : Result (List ℕ) Misuse) (n : �
   module _ (w : String Global) (h : n < length words) (w-is : w ≡ getD words n w) where
     here : before xs (minuteThen n (priceWord (string-bytes w)) (oneMinute (n + 1) (texts (drop (n + 1) words)))) ≡ all
     here =
-        let d : drop n words ≡ w ∷ drop (n + 1) words = drop-more words n w h ∙ ap (λ x. x ∷ drop (n + 1) words) (sym w-is) in
-        sym (ap (λ ws. before xs (oneMinute n (texts ws))) d) ∙ so-far
+        sym (ap (λ ws. before xs (oneMinute n (texts ws))) (drop-here words n w h w-is)) ∙ so-far
 
     pub bad-price : priceWord (string-bytes w) ≡ None → all ≡ Err (BadPrice n)
     bad-price e = sym here ∙ ap (λ o. before xs (minuteThen n o (oneMinute (n + 1) (texts (drop (n + 1) words))))) e

@@ -15,7 +15,6 @@ use money::ScaledMoneyDebug;
 use money::ScaledMoneyDisplay;
 use money::ScaledMoneyPartialEq;
 use money::TimeAccount;
-use std::alloc::AllocError;
 use std::alloc::Global;
 use std::alloc::Refused;
 use std::fmt;

@@ -2,14 +2,12 @@
 ghost use mathlib.Core.Path.{_≡_};
 ghost use Prim.Native.Nat.{_≤_};
 ghost use lib.ListN.{length};
-ghost use Rattle.std.specs.Of.Vec.{vec-items, vec-len};
+ghost use Rattle.std.specs.Of.Vec.{vec-len};
 ghost use Rattle.std.specs.Options.{mapped};
 ghost use Rattle.std.specs.Vec.{made};
 ghost use Rattle.std.specs.declared.option.Option.the-variants.{Some};
-ghost use Rattle.commands.specs.declared.errors.CommandError.the-variants.{Memory};
 ghost use Rattle.commands.specs.Meanings.{texts, scaleWord, priceWord, oneMinute, priceWords, minuteWords, worthsIn, requestIn, Means};
 use crate::errors::CommandError;
-use crate::errors::CommandErrorFromAlloc;
 use crate::errors::CommandErrorFromRefused;
 use crate::errors::Misuse;
 use money::CapacityPrice;

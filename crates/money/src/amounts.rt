@@ -34,29 +34,23 @@ impl Money {
     pub fn checked_add(self, other: Money) -> Result<Money, OutOfRange>
         ensures { λ r. ⌜ r ≡ exactly whole (self .units +ℤ other .units) ⌝ }
     {
-        match self.units.checked_add(other.units) {
-            Some(units) => Ok(Money { units }),
-            None => Err(OutOfRange),
-        }
+        let units = self.units.checked_add(other.units).ok_or(OutOfRange)?;
+        Ok(Money { units })
     }
 
     pub fn checked_sub(self, other: Money) -> Result<Money, OutOfRange>
         ensures { λ r. ⌜ r ≡ exactly whole (self .units -ℤ other .units) ⌝ }
     {
-        match self.units.checked_sub(other.units) {
-            Some(units) => Ok(Money { units }),
-            None => Err(OutOfRange),
-        }
+        let units = self.units.checked_sub(other.units).ok_or(OutOfRange)?;
+        Ok(Money { units })
     }
 
     // The same money in K-ths.
     pub fn scaled(self, scale: Scale) -> Result<ScaledMoney, OutOfRange>
         ensures { λ r. ⌜ r ≡ exactly inKths (self .units *ℤ pos (scale .k)) ⌝ }
     {
-        match self.units.checked_mul(scale.k() as i64) {
-            Some(kths) => Ok(ScaledMoney { kths }),
-            None => Err(OutOfRange),
-        }
+        let kths = self.units.checked_mul(scale.k() as i64).ok_or(OutOfRange)?;
+        Ok(ScaledMoney { kths })
     }
 }
 
@@ -70,19 +64,15 @@ impl ScaledMoney {
     pub fn checked_add(self, other: ScaledMoney) -> Result<ScaledMoney, OutOfRange>
         ensures { λ r. ⌜ r ≡ exactly inKths (self .kths +ℤ other .kths) ⌝ }
     {
-        match self.kths.checked_add(other.kths) {
-            Some(kths) => Ok(ScaledMoney { kths }),
-            None => Err(OutOfRange),
-        }
+        let kths = self.kths.checked_add(other.kths).ok_or(OutOfRange)?;
+        Ok(ScaledMoney { kths })
     }
 
     pub fn checked_sub(self, other: ScaledMoney) -> Result<ScaledMoney, OutOfRange>
         ensures { λ r. ⌜ r ≡ exactly inKths (self .kths -ℤ other .kths) ⌝ }
     {
-        match self.kths.checked_sub(other.kths) {
-            Some(kths) => Ok(ScaledMoney { kths }),
-            None => Err(OutOfRange),
-        }
+        let kths = self.kths.checked_sub(other.kths).ok_or(OutOfRange)?;
+        Ok(ScaledMoney { kths })
     }
 
     pub fn is_zero(self) -> bool

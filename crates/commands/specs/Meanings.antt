@@ -62,6 +62,7 @@ pub record Minute : Type 0 where
   pub scale : ℕ
   pub worths : List ℕ
 
+-- those worths at the scale k
 abbrev pub atScale : ℕ → Result (List ℕ) Misuse → Result Minute Misuse
 atScale k (Ok ns) = Ok (record { scale = k; worths = ns })
 atScale k (Err m) = Err m

@@ -4,6 +4,8 @@ ghost use Prim.Native.Nat.{_≤_};
 ghost use Rattle.std.specs.Options.{mapped};
 ghost use Rattle.money.specs.Limits.{priceOf, minutesOf};
 
+mod worth;
+
 // The price of one minute of a period's capacity, in K-ths.
 #[derive(Clone, Copy, Debug, PartialEq, Eq)]
 pub struct CapacityPrice {
@@ -36,12 +38,6 @@ impl CapacityPrice {
             None
         }
     }
-
-    pub fn kths(self) -> u32
-        ensures { λ r. ⌜ r ≡ self .kths ⌝ }
-    {
-        self.kths
-    }
 }
 
 impl Minutes {
@@ -61,11 +57,5 @@ impl Minutes {
         ensures { λ r. ⌜ r .count ≡ 1 ⌝ }
     {
         Minutes { count: 1 }
-    }
-
-    pub fn count(self) -> u32
-        ensures { λ r. ⌜ r ≡ self .count ⌝ }
-    {
-        self.count
     }
 }

@@ -1,22 +1,10 @@
 // Minutes charged to the account at a price, and handed back from it at a price.
 ghost use mathlib.Core.Path.{_≡_};
-ghost use lib.IntN.{pos};
 ghost use Rattle.money.specs.Postings.{worth, charged, handedBack, answered, balanced};
-ghost use Rattle.money.specs.Range.{inKths};
 use crate::account::TimeAccount;
 use crate::amounts::OutOfRange;
 use crate::amounts::ScaledMoney;
 use crate::priced::PricedTime;
-
-impl PricedTime {
-    // Price times minutes.
-    pub fn worth(self) -> ScaledMoney
-        ensures { λ r. ⌜ r ≡ inKths (pos (worth self)) ⌝ }
-    {
-        let kths = self.price.kths() as u64 * self.minutes.count() as u64;
-        ScaledMoney::new(kths as i64)
-    }
-}
 
 impl TimeAccount {
     // Charges the minutes at their price, and answers what they came to.

@@ -1,11 +1,11 @@
 -- The balance after postings: it moves one way, and what is handed back undoes what was charged.
 use mathlib.Core.Path.{_≡_, refl}
 use mathlib.Core.List.{List, [], _∷_}
-use Prim.Native.Nat.{ℕ, _+_, _*_, _^_, _≤_}
+use Prim.Native.Nat.{ℕ, _*_, _^_, _≤_}
 use native.Mathlib.Nat.{suc-mul, mul-le-mul-right}
 use native.Mathlib.Omega.{arith}
 use lib.ListN.{length}
-use lib.IntN.{ℤ, pos, negsuc, _+ℤ_, _-ℤ_}
+use lib.IntN.{ℤ, pos, negsuc, _-ℤ_}
 use mathlib.Core.Bool.{false}
 use Rattle.money.specs.Range.{inRange}
 use Rattle.std.proofs.shelf.Tests.{le-ltb}

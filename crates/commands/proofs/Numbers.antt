@@ -1,10 +1,9 @@
 -- A word that is parsed at an unsigned type, and held to a limit below what that type holds.
 use mathlib.Core.Path.{_≡_, refl, sym, ap, _∙_}
 use mathlib.Core.Bool.{Bool, true, false, cond, _&&_}
-use mathlib.Core.Logic.{_⊎_, inl, inr}
+use mathlib.Core.Logic.{inl, inr}
 use mathlib.Core.List.{List}
-use Prim.Native.Nat.{ℕ, _^_, _≤_, _<_}
-use native.Mathlib.Omega.{arith}
+use Prim.Native.Nat.{ℕ, _^_, _≤_}
 use lib.Dec.{ltb}
 use lib.ListN.{length}
 use Rattle.std.specs.declared.option.Option.{Option}

@@ -1,7 +1,7 @@
 -- The words SCALE PRICE..., by how many there are.
 use mathlib.Core.Path.{_≡_, refl, sym, ap, _∙_}
 use mathlib.Core.Bool.{Bool, true, false, cond}
-use mathlib.Core.List.{List, [], _∷_, map}
+use mathlib.Core.List.{List, [], _∷_}
 use Prim.Native.Nat.{ℕ, _≤_, _<_}
 use native.Mathlib.Omega.{arith}
 use lib.Chars.{codes}
@@ -9,8 +9,7 @@ use lib.Dec.{eqb, ltb}
 use lib.ListN.{length, getD}
 use Rattle.std.specs.declared.alloc.Global.{Global}
 use Rattle.std.specs.declared.option.Option.the-variants.{Some}
-use Rattle.std.specs.declared.result.Result.{Result}
-use Rattle.std.specs.declared.result.Result.the-variants.{Ok, Err}
+use Rattle.std.specs.declared.result.Result.the-variants.{Err}
 use Rattle.std.specs.declared.string.String.{String}
 use Rattle.std.specs.Of.String.{string-bytes}
 use Rattle.std.specs.Holes.{between}
@@ -20,10 +19,9 @@ use Rattle.std.proofs.shelf.Equals.{sameBytes-decides}
 use Rattle.std.proofs.shelf.Ways.{same-from-decides}
 use Rattle.std.proofs.shelf.Lists.{length-map}
 use Rattle.std.proofs.shelf.Parts.{first-rest}
-use Rattle.std.proofs.shelf.Tests.{eqb-true, eqb-false, eq-eqb, ne-eqb, lt-ltb, le-ltb}
+use Rattle.std.proofs.shelf.Tests.{lt-ltb, le-ltb}
 use Rattle.commands.specs.declared.errors.CommandError.{CommandError}
 use Rattle.commands.specs.declared.errors.CommandError.the-variants.{Memory, Misused}
-use Rattle.commands.specs.declared.errors.Misuse.{Misuse}
 use Rattle.commands.specs.declared.errors.Misuse.the-variants.{UnknownVerb, NoPrice, TooManyPrices}
 use Rattle.commands.specs.Printed.{answer, minuteAnswer}
 use Rattle.commands.specs.Meanings.{texts, oneMinute, atScale, priceWords, minuteWords, worthsIn, requestIn, Means}

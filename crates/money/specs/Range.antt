@@ -1,6 +1,6 @@
 -- Exact results, and the range in which they are kept.
 use mathlib.Core.Bool.{Bool, false, cond}
-use Prim.Native.Nat.{ℕ, _^_}
+use Prim.Native.Nat.{_^_}
 use lib.Dec.{eqb, ltb}
 use lib.IntN.{ℤ, pos, negsuc}
 use Rattle.std.specs.declared.result.Result.{Result}

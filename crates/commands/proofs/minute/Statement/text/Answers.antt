@@ -1,4 +1,3 @@
-use mathlib.Core.Path.{refl}
 use Rattle.commands.proofs.Lines.{line-more, text-whole}
 use Rattle.commands.proofs.minute.Statement.text.Needs as need
 

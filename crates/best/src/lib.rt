@@ -1,4 +1,6 @@
 // The better of two entries: orders of entries, three kinds of entry, and the keeper of the best one offered.
+#![tactic(auto)]
+
 mod choices;
 mod entries;
 mod keeping;

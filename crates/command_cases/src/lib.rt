@@ -1,3 +1,5 @@
 // Commands run on cases that were worked out by hand.
+#![tactic(auto)]
+
 #[cfg(test)]
 mod tests;

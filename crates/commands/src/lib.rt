@@ -1,4 +1,6 @@
 // The program's commands: words in, text out.
+#![tactic(auto)]
+
 mod dispatch;
 mod errors;
 mod ledger;

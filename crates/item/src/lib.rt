@@ -1,4 +1,6 @@
 // One item: its records and limits, the interface of an item rule, and what the least cost means.
+#![tactic(auto)]
+
 mod asking;
 mod limits;
 mod records;

@@ -1,4 +1,6 @@
 // The program `lotaudit`: prints what its words are answered with, or what is wrong with them.
+#![tactic(auto)]
+
 use anyhow::anyhow;
 use commands::run;
 use std::fmt::Display;

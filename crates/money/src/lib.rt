@@ -1,4 +1,6 @@
 // Exact money: whole money, money in K-ths, the scale between them, and the account of priced time.
+#![tactic(auto)]
+
 mod account;
 mod amounts;
 mod priced;

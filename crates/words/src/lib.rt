@@ -1,4 +1,6 @@
 // Reading the words of a command: the numbers that they write, and what is wrong with them.
+#![tactic(auto)]
+
 mod errors;
 mod figures;
 mod firsts;

@@ -9,10 +9,10 @@ use crate::rules::ItemRule;
 
 // Opens the header and tells each row.
 pub fn fill<R: ItemRule>(rule: &mut R, header: Header, rows: &[Row]) -> Result<(), Refusal>
-    ensures says { result ≡ fill_answer (meaning rule.old) header rows.now }
-    ensures holds { held rule.new ≡ held_after_fill (meaning rule.old) header rows.now (held rule.old) }
-    ensures fills { result ≡ Ok tt → sound rule.new × (held rule.new ≡ opened header rows.now) }
-    ensures same { meaning rule.new ≡ meaning rule.old }
+    ensures says { result ≡ fill_answer (R.meaning rule.old) header rows.now }
+    ensures holds { R.held rule.new ≡ held_after_fill (R.meaning rule.old) header rows.now (R.held rule.old) }
+    ensures fills { result ≡ Ok tt → R.sound rule.new × (R.held rule.new ≡ opened header rows.now) }
+    ensures same { R.meaning rule.new ≡ R.meaning rule.old }
 {
     rule.open(header)?;
     for row in rows {
@@ -23,11 +23,11 @@ pub fn fill<R: ItemRule>(rule: &mut R, header: Header, rows: &[Row]) -> Result<(
 
 // The least cost of an item.
 pub fn item_least<R: ItemRule>(rule: &mut R, header: Header, rows: &[Row]) -> Result<u64, Refusal>
-    ensures says { result ≡ item_least (meaning rule.old) header rows.now }
-    ensures holds { held rule.new ≡ held_after_fill (meaning rule.old) header rows.now (held rule.old) }
-    ensures value { LeastMeans ((meaning rule.old).verdict header) rows.now (least_cost ((meaning rule.old).verdict header) rows.now) }
-    ensures least { AnsweredLeast (meaning rule.old) header rows.now result }
-    ensures same { meaning rule.new ≡ meaning rule.old }
+    ensures says { result ≡ item_least (R.meaning rule.old) header rows.now }
+    ensures holds { R.held rule.new ≡ held_after_fill (R.meaning rule.old) header rows.now (R.held rule.old) }
+    ensures value { LeastMeans ((R.meaning rule.old).verdict header) rows.now (least_cost ((R.meaning rule.old).verdict header) rows.now) }
+    ensures least { AnsweredLeast (R.meaning rule.old) header rows.now result }
+    ensures same { R.meaning rule.new ≡ R.meaning rule.old }
 {
     fill(rule, header, rows)?;
     rule.least()
@@ -40,9 +40,9 @@ pub fn item_verdict<R: ItemRule>(
     rows: &[Row],
     plan: &[Lot],
 ) -> Result<Verdict, Refusal>
-    ensures says { result ≡ item_verdict (meaning rule.old) header rows.now plan.now }
-    ensures holds { held rule.new ≡ held_after_fill (meaning rule.old) header rows.now (held rule.old) }
-    ensures same { meaning rule.new ≡ meaning rule.old }
+    ensures says { result ≡ item_verdict (R.meaning rule.old) header rows.now plan.now }
+    ensures holds { R.held rule.new ≡ held_after_fill (R.meaning rule.old) header rows.now (R.held rule.old) }
+    ensures same { R.meaning rule.new ≡ R.meaning rule.old }
 {
     fill(rule, header, rows)?;
     rule.weigh(plan)

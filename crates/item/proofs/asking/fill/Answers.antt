@@ -6,9 +6,9 @@ use Rattle.item.specs.Meanings.{opened}
 use Rattle.item.proofs.Tells.{Known, known_by, and_rows, tell_on, tell_stop, tell_holds, tell_end, leaves_on, leaves_stop, leaves_end, refused_held, no_rows, not_refused}
 use Rattle.item.proofs.asking.fill.Given as given
 use Rattle.item.proofs.asking.fill.Goals as goal
-use Rattle.item.proofs.asking.fill.Goals.{In-ok-open}
+use Rattle.item.proofs.asking.fill.Goals.{In_ok-open}
 
-first : (g : given.Over) (c : In-ok-open g) → Known (g.R.ItemRule.meaning c.args.rule.now) c.args.header (g.R.ItemRule.held c.args.rule.now) c.args.rows.now
+first : (g : given.Over) (c : In_ok-open g) → Known (g.R.ItemRule.meaning c.args.rule.now) c.args.header (g.R.ItemRule.held c.args.rule.now) c.args.rows.now
 first g c = known_by (g.R.ItemRule.meaning c.args.rule.now) c.args.header (g.R.ItemRule.held c.args.rule.now) c.args.rows.now _ c.in-ok-open.ensures.says
 
 pub loop-row-init : goal.loop-row-init

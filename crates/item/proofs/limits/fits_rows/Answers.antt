@@ -15,7 +15,7 @@ returns-then-not-is-within-limits c =
 pub loop-lot-preserved : goal.loop-lot-preserved
 loop-lot-preserved c =
     let here = c.loop-lot.invariant ∙ ap (amounts_up_to most_amount) (drop_more c.args.plan.now c.loop-lot.lot-index (lot 0 false) c.loop-lot-test.true) in
-    rw (sym c.if-not-is-within-limits.ensures) at here
+    rw (sym c.if-not-is_within_limits.ensures) at here
 
 pub returns : goal.returns
 returns c =

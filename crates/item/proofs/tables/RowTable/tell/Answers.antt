@@ -13,9 +13,9 @@ invariant-of-self c =
 pub returns : goal.returns
 returns c =
     let s = c.args.self.now in
-    let w = sym c.if-not-is-within-limits.ensures in
+    let w = sym c.if-not-is_within_limits.ensures in
     record {
       stays = refl;
-      says = told s.count s.rows c.args.row s.long w (ltb-true s.count 32 (sym c.if-not-has-room.ensures)) s.opened _ c.in-ok-header.ensures;
-      holds = told_held s.count s.rows c.args.row s.long w (ltb-true s.count 32 (sym c.if-not-has-room.ensures)) s.opened _ c.in-ok-header.ensures;
+      says = told s.count s.rows c.args.row s.long w (ltb-true s.count 32 (sym c.if-not-has_room.ensures)) s.opened _ c.in_ok-header.ensures;
+      holds = told_held s.count s.rows c.args.row s.long w (ltb-true s.count 32 (sym c.if-not-has_room.ensures)) s.opened _ c.in_ok-header.ensures;
     }

@@ -3,8 +3,8 @@ use Rattle.words.specs.Readings.{texts, Means}
 use Rattle.item_commands.proofs.Verbs.{no_verb, as_least, as_weigh, as_unknown}
 use Rattle.item_commands.proofs.dispatch.run_item.Goals as goal
 
-pub returns-in-default : goal.returns-in-default
-returns-in-default c = no_verb (texts c.args.words.now) c.in-default.ensures ∙ ap Ok (sym c.in-ok-usage.ensures)
+pub returns-in_default : goal.returns-in_default
+returns-in_default c = no_verb (texts c.args.words.now) c.in_default.ensures ∙ ap Ok (sym c.in_ok-usage.ensures)
 
 pub returns-then-eq : goal.returns-then-eq
 returns-then-eq c =

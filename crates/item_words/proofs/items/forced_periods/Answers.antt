@@ -6,16 +6,16 @@ use Rattle.item_words.proofs.items.forced_periods.Goals as goal
 
 pub loop-field-init : goal.loop-field-init
 loop-field-init c =
-    let b = c.into-iter-field-iterator.ensures.into-iter-gives in (
+    let b = c.into_iter-field-iterator.ensures.into_iter-gives in (
       tt,
       tt,
-      none_forced c.args.word.now c.into-iter-field-iterator.result (ap split_pattern b ∙ c.split-field-items.ensures.pattern) (ap split_text b ∙ c.split-field-items.ensures.text) (ap split_has_more b ∙ c.split-field-items.ensures.Has-more),
+      none_forced c.args.word.now c.into_iter-field-iterator.result (ap split_pattern b ∙ c.split-field-items.ensures.pattern) (ap split_text b ∙ c.split-field-items.ensures.text) (ap split_has_more b ∙ c.split-field-items.ensures.Has-more),
     )
 
-pub returns-in-err-period : goal.returns-in-err-period
-returns-in-err-period c =
-    rw c.from-residual.ensures
-    (bad_period _ _ _ _ c.loop-field.invariant.2 c.in-Some.field.now c.next.new.self c.in-Some.ensures.steps.0 c.in-Some.ensures.steps.1.0 c.in-Some.ensures.steps.1.1 c.in-err-period.ensures.means)
+pub returns-in_err-period : goal.returns-in_err-period
+returns-in_err-period c =
+    rw c.from_residual.ensures
+    (bad_period _ _ _ _ c.loop-field.invariant.2 c.in-Some.field.now c.next.new.self c.in-Some.ensures.steps.0 c.in-Some.ensures.steps.1.0 c.in-Some.ensures.steps.1.1 c.in_err-period.ensures.means)
 
 pub loop-field-preserved : goal.loop-field-preserved
 loop-field-preserved c = (
@@ -23,7 +23,7 @@ loop-field-preserved c = (
   tt,
   one_forced (forced_fields 0 (fields c.args.word.now)) c.loop-field.forced c.loop-field.lowest c.loop-field.field-iterator c.loop-field.invariant.2 c.in-Some.field.now c.next.new.self
       c.in-Some.ensures.steps.0 c.in-Some.ensures.steps.1.0 c.in-Some.ensures.steps.1.1
-      c.in-ok-period.period c.in-ok-period.ensures.means c.in-ok-period.ensures.within.0 c.in-ok-period.ensures.within.1,
+      c.in_ok-period.period c.in_ok-period.ensures.means c.in_ok-period.ensures.within.0 c.in_ok-period.ensures.within.1,
 )
 
 pub returns : goal.returns

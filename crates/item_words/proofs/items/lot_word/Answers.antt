@@ -8,10 +8,10 @@ returns-then-eq c = lot_dash c.args.word.now c.if-eq.ensures
 
 pub returns-in-Some : goal.returns-in-Some
 returns-in-Some c =
-    lot_marked c.args.word.now c.in-Some.amount.now c.lot-of.result c.if-eq.ensures
-    (strip_suffix_char 33 c.args.word.now (Some c.in-Some.amount) c.in-Some.ensures.cases (omega arith)) c.lot-of.ensures
+    lot_marked c.args.word.now c.in-Some.amount.now c.lot_of.result c.if-eq.ensures
+    (strip_suffix_char 33 c.args.word.now (Some c.in-Some.amount) c.in-Some.ensures.cases (omega arith)) c.lot_of.ensures
 
 pub returns-in-None : goal.returns-in-None
 returns-in-None c =
-    lot_plain c.args.word.now c.lot-of-in-None.result c.if-eq.ensures
-    (strip_suffix_char 33 c.args.word.now None c.in-None.ensures.cases (omega arith)) c.lot-of-in-None.ensures
+    lot_plain c.args.word.now c.lot_of-in-None.result c.if-eq.ensures
+    (strip_suffix_char 33 c.args.word.now None c.in-None.ensures.cases (omega arith)) c.lot_of-in-None.ensures

@@ -8,16 +8,16 @@ use Rattle.item_words.proofs.items.lot_words.Goals as goal
 pub loop-period-init : goal.loop-period-init
 loop-period-init c = none_read lot_word BadLot c.args.words.now _ c.new-lots.ensures.items
 
-pub returns-in-default : goal.returns-in-default
-returns-in-default c =
+pub returns-in_default : goal.returns-in_default
+returns-in_default c =
     bad_read lot_word BadLot c.args.words.now _ c.loop-period.period (vec_items c.loop-period.lots) c.loop-period.invariant
-    c.index-words-period.result _ c.loop-period-test.true c.index-words-period.is c.as-str.ensures.value c.in-default.ensures
+    c.index-words-period.result _ c.loop-period-test.true c.index-words-period.is c.as_str.ensures.value c.in_default.ensures
 
 pub loop-period-preserved : goal.loop-period-preserved
 loop-period-preserved c =
     one_read lot_word BadLot c.args.words.now (lot_words (texts c.args.words.now)) c.loop-period.period (vec_items c.loop-period.lots) c.loop-period.invariant
-    c.index-words-period.result _ c.loop-period-test.true c.index-words-period.is c.as-str.ensures.value
-    c.in-Some.lot (vec_items c.push.new.self) c.in-Some.ensures c.in-ok-push.ensures.items
+    c.index-words-period.result _ c.loop-period-test.true c.index-words-period.is c.as_str.ensures.value
+    c.in-Some.lot (vec_items c.push.new.self) c.in-Some.ensures c.in_ok-push.ensures.items
 
 pub returns : goal.returns
 returns c = read_all lot_word BadLot c.args.words.now _ c.loop-period.period (vec_items c.loop-period.lots) c.loop-period.invariant c.loop-period-test.false

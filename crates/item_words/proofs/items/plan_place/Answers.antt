@@ -7,13 +7,13 @@ loop-place-init c = at_start c.args.words.now
 pub returns-then-eq : goal.returns-then-eq
 returns-then-eq c =
     record {
-      means = plan_here c.args.words.now c.loop-place.place c.loop-place.invariant c.index-words-place.result _ c.loop-place-test.true c.index-words-place.is c.as-str.ensures.value c.if-eq.ensures;
+      means = plan_here c.args.words.now c.loop-place.place c.loop-place.invariant c.index-words-place.result _ c.loop-place-test.true c.index-words-place.is c.as_str.ensures.value c.if-eq.ensures;
       within = c.loop-place-test.true;
     }
 
 pub loop-place-preserved : goal.loop-place-preserved
 loop-place-preserved c =
-    not_here c.args.words.now c.loop-place.place c.loop-place.invariant c.index-words-place.result _ c.loop-place-test.true c.index-words-place.is c.as-str.ensures.value c.if-eq.ensures
+    not_here c.args.words.now c.loop-place.place c.loop-place.invariant c.index-words-place.result _ c.loop-place-test.true c.index-words-place.is c.as_str.ensures.value c.if-eq.ensures
 
 pub returns : goal.returns
 returns c = record { means = nowhere c.args.words.now c.loop-place.place c.loop-place.invariant c.loop-place-test.false; within = tt }

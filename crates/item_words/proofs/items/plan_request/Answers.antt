@@ -9,24 +9,24 @@ use Rattle.words.specs.Readings.{texts}
 use Rattle.item_words.proofs.Plans.{refused_rows, refused_plan, all_planned}
 use Rattle.item_words.proofs.items.plan_request.Goals as goal
 
-pub returns-in-err-rows : goal.returns-in-err-rows
-returns-in-err-rows c =
-    let p = err_from_is_err_and c.from-residual-in-err-rows.result c.from-residual-in-err-rows.ensures.1 in
+pub returns-in_err-rows : goal.returns-in_err-rows
+returns-in_err-rows c =
+    let p = err_from_is_err_and c.from_residual-in_err-rows.result c.from_residual-in_err-rows.ensures.1 in
     rw (p.1, p.2)
-    (refused_rows (texts c.args.words.now) c.in-ok-header.header c.in-ok-header.words.now (take c.in-Some.place c.in-ok-header.words.now) (between (c.in-Some.place + 1) (length c.in-ok-header.words.now) c.in-ok-header.words.now)
-    c.in-Some.place c.in-ok-header.ensures c.in-Some.ensures.means refl (between_to_end c.in-ok-header.words.now (c.in-Some.place + 1) (length c.in-ok-header.words.now) (omega arith))
-    {V = Vec Row Global} vec_items _ c.in-err-rows.ensures)
+    (refused_rows (texts c.args.words.now) c.in_ok-header.header c.in_ok-header.words.now (take c.in-Some.place c.in_ok-header.words.now) (between (c.in-Some.place + 1) (length c.in_ok-header.words.now) c.in_ok-header.words.now)
+    c.in-Some.place c.in_ok-header.ensures c.in-Some.ensures.means refl (between_to_end c.in_ok-header.words.now (c.in-Some.place + 1) (length c.in_ok-header.words.now) (omega arith))
+    {V = Vec Row Global} vec_items _ c.in_err-rows.ensures)
 
-pub returns-in-err-plan : goal.returns-in-err-plan
-returns-in-err-plan c =
-    let p = err_from_is_err_and c.from-residual-in-err-plan.result c.from-residual-in-err-plan.ensures.1 in
+pub returns-in_err-plan : goal.returns-in_err-plan
+returns-in_err-plan c =
+    let p = err_from_is_err_and c.from_residual-in_err-plan.result c.from_residual-in_err-plan.ensures.1 in
     rw (p.1, p.2)
-    (refused_plan (texts c.args.words.now) c.in-ok-header.header c.in-ok-header.words.now (take c.in-Some.place c.in-ok-header.words.now) (between (c.in-Some.place + 1) (length c.in-ok-header.words.now) c.in-ok-header.words.now)
-    c.in-Some.place c.in-ok-header.ensures c.in-Some.ensures.means refl (between_to_end c.in-ok-header.words.now (c.in-Some.place + 1) (length c.in-ok-header.words.now) (omega arith))
-    (vec_items c.in-ok-rows.rows) c.in-ok-rows.ensures {V = Vec Lot Global} vec_items _ c.in-err-plan.ensures)
+    (refused_plan (texts c.args.words.now) c.in_ok-header.header c.in_ok-header.words.now (take c.in-Some.place c.in_ok-header.words.now) (between (c.in-Some.place + 1) (length c.in_ok-header.words.now) c.in_ok-header.words.now)
+    c.in-Some.place c.in_ok-header.ensures c.in-Some.ensures.means refl (between_to_end c.in_ok-header.words.now (c.in-Some.place + 1) (length c.in_ok-header.words.now) (omega arith))
+    (vec_items c.in_ok-rows.rows) c.in_ok-rows.ensures {V = Vec Lot Global} vec_items _ c.in_err-plan.ensures)
 
 pub returns : goal.returns
 returns c =
-    all_planned (texts c.args.words.now) c.in-ok-header.header c.in-ok-header.words.now (take c.in-Some.place c.in-ok-header.words.now) (between (c.in-Some.place + 1) (length c.in-ok-header.words.now) c.in-ok-header.words.now)
-    c.in-Some.place c.in-ok-header.ensures c.in-Some.ensures.means refl (between_to_end c.in-ok-header.words.now (c.in-Some.place + 1) (length c.in-ok-header.words.now) (omega arith))
-    (vec_items c.in-ok-rows.rows) c.in-ok-rows.ensures (vec_items c.in-ok-plan.plan) c.in-ok-plan.ensures
+    all_planned (texts c.args.words.now) c.in_ok-header.header c.in_ok-header.words.now (take c.in-Some.place c.in_ok-header.words.now) (between (c.in-Some.place + 1) (length c.in_ok-header.words.now) c.in_ok-header.words.now)
+    c.in-Some.place c.in_ok-header.ensures c.in-Some.ensures.means refl (between_to_end c.in_ok-header.words.now (c.in-Some.place + 1) (length c.in_ok-header.words.now) (omega arith))
+    (vec_items c.in_ok-rows.rows) c.in_ok-rows.ensures (vec_items c.in_ok-plan.plan) c.in_ok-plan.ensures

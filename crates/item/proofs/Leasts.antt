@@ -1,5 +1,5 @@
 -- The least cost as a value is the least cost as a relation.
-use Rattle.std.proofs.Common.{◌≡◌, ℕ, zero, suc, ◌<◌, ◌≤◌, min, Bool, true, false, cond, ◌&&◌, eqb, ltb, leb, ◌⊎◌, List, [], ◌∷◌, length, Some, None, Ok, Err, Option, Result, sym, refl, ap, ◌∙◌, subst, inl, inr, ⊎_elim, arith}
+use Rattle.std.proofs.Common.{◌≡◌, ℕ, zero, suc, ◌<◌, ◌≤◌, min, Bool, true, false, cond, eqb, ltb, leb, ◌⊎◌, List, [], ◌∷◌, length, Some, None, Ok, Err, Option, Result, sym, refl, ap, ◌∙◌, subst, inl, inr, ⊎_elim, arith}
 use Rattle.std.proofs.lemmas.Bool.{and_parts, and_from, leb-true, leb-false, le-leb, eqb-true, eq-eqb, cases_eq, cases_lt, cases_Bool}
 use Rattle.item.specs.declared.records.Header.{Header}
 use Rattle.item.specs.declared.records.Lot.{Lot}
@@ -10,7 +10,7 @@ use Rattle.item.specs.declared.records.Verdict.{Verdict}
 use Rattle.item.specs.declared.records.Verdict.TheVariants.{Cost, Fault}
 use Rattle.item.specs.Asked.{and_then, tell_all_answer, fill_answer, item_least, AnsweredLeast}
 use Rattle.item.specs.Calls.{open_answer, tell_answer, held_after_tell, named_least, least_answer}
-use Rattle.item.specs.Least.{cost_of, lower, lowest_to, lot, lowest_plan, least_cost, IsLeast, NoneAdmitted, LeastMeans}
+use Rattle.item.specs.Least.{cost_of, lower, lowest_to, lot, lowest_plan, least_cost, IsLeast, LeastMeans}
 use Rattle.item.specs.Limits.{most_amount, most_rows, most_cost, amounts_up_to, row_within, fits}
 use Rattle.item.specs.Meanings.{Meaning, Held, unopened, opened}
 

@@ -1,11 +1,11 @@
 -- One row more in a table.
-use Rattle.std.proofs.Common.{◌≡◌, ℕ, ◌+◌, ◌<◌, ◌≤◌, Bool, true, false, cond, ◌&&◌, ltb, List, [], ◌∷◌, ◌++◌, length, take, set, Some, None, Ok, Option, sym, refl, ap, ◌∙◌, arith}
+use Rattle.std.proofs.Common.{◌≡◌, ℕ, ◌+◌, ◌<◌, Bool, true, false, ◌&&◌, List, [], ◌∷◌, ◌++◌, length, take, set, Some, None, Ok, Option, refl, arith}
 use Rattle.std.proofs.lemmas.List.{take_more_set, length-take-le}
 use Rattle.std.proofs.lemmas.Bool.{lt-ltb}
 use Rattle.item.specs.declared.records.Header.{Header}
 use Rattle.item.specs.declared.records.Row.{Row}
 use Rattle.item.specs.Calls.{header_answer, tell_answer, held_after_tell, held_of}
-use Rattle.item.specs.Limits.{most_rows, row_within, rows_within}
+use Rattle.item.specs.Limits.{row_within, rows_within}
 
 within_more : (rows : List Row) (r : Row) → rows_within rows ≡ true → row_within r ≡ true → rows_within (rows ++ (r ∷ [])) ≡ true
 within_more [] r h k = rw k

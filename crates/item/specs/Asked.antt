@@ -1,5 +1,5 @@
 -- An item put to a rule: its header opened, its rows told in turn, then asked about.
-use Rattle.std.specs.Prelude.{◌≡◌, ℕ, ◌<◌, true, List, [], ◌∷◌, ◌++◌, Ok, Err, Result}
+use Rattle.std.specs.Prelude.{◌≡◌, ℕ, ◌<◌, true, List, [], ◌∷◌, Ok, Err, Result}
 use Rattle.item.specs.declared.records.Header.{Header}
 use Rattle.item.specs.declared.records.Lot.{Lot}
 use Rattle.item.specs.declared.records.Refusal.{Refusal}

@@ -1,5 +1,5 @@
 -- What each call of a rule answers, and what is held after it.
-use Rattle.std.specs.Prelude.{◌≡◌, ℕ, ◌≤◌, Bool, true, cond, ◌&&◌, List, [], ◌∷◌, ◌++◌, length, Some, None, Ok, Err, Option, Result, nat_le, nat_lt}
+use Rattle.std.specs.Prelude.{◌≡◌, ℕ, ◌≤◌, true, cond, ◌&&◌, List, [], ◌∷◌, ◌++◌, length, Some, None, Ok, Err, Option, Result, nat_le, nat_lt}
 use Rattle.item.specs.declared.records.Header.{Header}
 use Rattle.item.specs.declared.records.Lot.{Lot}
 use Rattle.item.specs.declared.records.Refusal.{Refusal}

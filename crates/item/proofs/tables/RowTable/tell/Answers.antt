@@ -1,14 +1,14 @@
-use Rattle.std.proofs.Common.{◌≡◌, sym, refl, arith, length-set}
+use Rattle.std.proofs.Common.{sym, refl, arith, length-set}
 use Rattle.std.proofs.lemmas.Bool.{ltb-true}
 use Rattle.item.proofs.Rows.{told_within, told, told_held}
 use Rattle.item.proofs.tables.RowTable.tell.Goals as goal
 
-pub invariant-of-self : goal.invariant-of-self
-invariant-of-self c =
+pub invariant_of-self : goal.invariant_of-self
+invariant_of-self c =
     let s = c.args.self.now in
-    let w = sym c.if-not-is-within-limits.ensures in
-    let room = ltb-true s.count 32 (sym c.if-not-has-room.ensures) in
-    (simp length-set s.long, (omega arith, (told_within s.count s.rows c.args.row s.long w room s.within, tt)))
+    let w = sym c.if-not-is_within_limits.ensures in
+    let room = ltb-true s.count 32 (sym c.if-not-has_room.ensures) in
+    record { long = simp length-set s.long; few = omega arith; within = told_within s.count s.rows c.args.row s.long w room s.within }
 
 pub returns : goal.returns
 returns c =

@@ -1,5 +1,5 @@
 -- One turn of the programme's two tables.
-use Rattle.std.proofs.Common.{◌≡◌, ℕ, zero, suc, ◌+◌, ◌-◌, ◌*◌, ◌^◌, ◌<◌, ◌≤◌, min, Bool, true, false, ◌&&◌, ltb, List, [], ◌∷◌, length, get_or, take, drop, replicate, sym, refl, ap, ◌∙◌, subst, arith}
+use Rattle.std.proofs.Common.{◌≡◌, ℕ, zero, suc, ◌+◌, ◌-◌, ◌*◌, ◌^◌, ◌<◌, ◌≤◌, min, Bool, true, false, ◌&&◌, ltb, List, [], ◌∷◌, length, drop, replicate, sym, refl, ap, ◌∙◌, arith}
 use Rattle.std.proofs.lemmas.List.{drop_all, drop_more, length-drop}
 use Rattle.std.proofs.lemmas.Bool.{lt-ltb, le-ltb}
 use Rattle.best.specs.declared.entries.Candidate.{Candidate}
@@ -8,7 +8,7 @@ use Rattle.base_rules.specs.Verdicts.{may_owe}
 use Rattle.base_rules.specs.Programme.{block, hand, owed, blank, row_at, due, aged, cost_at}
 use Rattle.base_rules.specs.Caps.{hand_cap, owed_cap, every_drop}
 use Rattle.base_rules.proofs.Steps.{due_next, due_cap, aged_next, aged_first}
-use Rattle.base_rules.specs.Told.{Limits, Told}
+use Rattle.base_rules.specs.Told.{Told}
 
 -- a candidate that makes no lot
 abbrev pub no_lot : Candidate

@@ -1,10 +1,10 @@
 -- Sums from one row to another.
-use Rattle.std.proofs.Common.{◌≡◌, ℕ, zero, suc, ◌+◌, ◌-◌, ◌*◌, ◌<◌, ◌≤◌, List, [], ◌∷◌, length, get_or, take, drop, sum_by, sym, refl, ap, ◌∙◌, subst, mul-le-mul_right, mul-le-mul, arith}
+use Rattle.std.proofs.Common.{◌≡◌, ℕ, suc, ◌+◌, ◌-◌, ◌*◌, ◌<◌, ◌≤◌, List, [], ◌∷◌, length, take, sum_by, subst, mul-le-mul_right, mul-le-mul, arith}
 use Rattle.std.proofs.lemmas.List.{take-take}
 use Rattle.std.proofs.lemmas.List.Sums.{sum_by_more, sum_by-take-le, sum_by-cons}
 use Rattle.item.specs.declared.records.Row.{Row}
 use Rattle.base_rules.specs.Programme.{blank, row_at, due, holding, aged}
-use Rattle.base_rules.specs.Told.{Limits, Told}
+use Rattle.base_rules.specs.Told.{Told}
 
 sum_up : (f : Row → ℕ) (rs : List Row) (a t : ℕ) → a ≤ t → sum_by f (take a rs) ≤ sum_by f (take t rs)
 sum_up f rs a t h = subst (λ l. sum_by f l ≤ sum_by f (take t rs)) (take-take a t rs h) (sum_by-take-le f (take t rs) a)

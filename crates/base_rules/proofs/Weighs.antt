@@ -1,5 +1,5 @@
 -- The steps of weighing a plan.
-use Rattle.std.proofs.Common.{◌≡◌, ℕ, zero, suc, ◌+◌, ◌-◌, ◌*◌, ◌<◌, ◌≤◌, Bool, true, false, cond, not, ◌&&◌, eqb, ltb, leb, List, [], ◌∷◌, length, drop, sym, refl, ap, ◌∙◌, ap₂, mul-le-mul, arith}
+use Rattle.std.proofs.Common.{◌≡◌, ℕ, zero, suc, ◌+◌, ◌-◌, ◌*◌, ◌<◌, ◌≤◌, Bool, true, false, cond, not, ◌&&◌, eqb, ltb, leb, List, [], ◌∷◌, length, drop, refl, ap, ◌∙◌, ap₂, mul-le-mul, arith}
 use Rattle.std.proofs.lemmas.List.{drop_all, drop_more}
 use Rattle.std.proofs.lemmas.Bool.{and_parts, leb-true, eqb-true}
 use Rattle.item.specs.declared.records.Lot.{Lot}
@@ -11,7 +11,7 @@ use Rattle.item.specs.Limits.{most_amount, amounts_up_to, row_within, fits}
 use Rattle.base_rules.specs.Programme.{blank, row_at}
 use Rattle.base_rules.specs.Stocks.{lot_at}
 use Rattle.base_rules.specs.Verdicts.{period_cost, may_owe, short_cause, plus, verdict_from}
-use Rattle.base_rules.specs.Told.{Limits, limits}
+use Rattle.base_rules.specs.Told.{limits}
 
 pub plan_long : (rows : List Row) (plan : List Lot) → fits rows plan ≡ true → length plan ≡ length rows
 plan_long rows plan f = eqb-true _ _ (and_parts (eqb (length plan) (length rows)) (amounts_up_to most_amount plan) f).0

@@ -1,15 +1,14 @@
 -- No admitted plan goes below the programme.
-use Rattle.std.specs.Prelude.{◌≡◌, ℕ, zero, suc, ◌+◌, ◌-◌, ◌*◌, ◌<◌, ◌≤◌, min, Bool, true, false, cond, ◌⊎◌, List, [], ◌∷◌, refl}
-use Rattle.std.proofs.Common.{sym, ap, subst, ◌∙◌, inl, inr, ⊎_elim, mul-le-mul_right, mul-le-mul_left, arith}
+use Rattle.std.specs.Prelude.{◌≡◌, ℕ, zero, suc, ◌+◌, ◌*◌, ◌<◌, ◌≤◌, min, Bool, true, false, cond, ◌⊎◌, List, [], ◌∷◌, refl}
+use Rattle.std.proofs.Common.{ap, inl, inr, ⊎_elim, mul-le-mul_right, arith}
 use Rattle.std.proofs.lemmas.Bool.{cases_lt, cases_Bool, both_ways}
 use Rattle.item.specs.declared.records.Lot.{Lot}
 use Rattle.item.specs.declared.records.Row.{Row}
-use Rattle.item.specs.declared.records.Verdict.{Verdict}
-use Rattle.item.specs.declared.records.Verdict.TheVariants.{Cost, Fault}
+use Rattle.item.specs.declared.records.Verdict.TheVariants.{Cost}
 use Rattle.base_rules.specs.Verdicts.{may_owe, verdict_from}
 use Rattle.base_rules.specs.Programme.{block, hand, owed}
 use Rattle.base_rules.specs.Fitting.{Fits}
-use Rattle.base_rules.specs.Turns.{Turn, turn}
+use Rattle.base_rules.specs.Turns.{turn}
 use Rattle.base_rules.specs.Pays.{row_pays, whole_lot}
 
 pub block_make : (b : Bool) (q n make wait : ℕ) → block b q n make wait ≤ make

@@ -1,10 +1,10 @@
 -- The programme's values stay small.
-use Rattle.std.specs.Prelude.{◌≡◌, ℕ, zero, suc, ◌+◌, ◌-◌, ◌*◌, ◌^◌, ◌<◌, ◌≤◌, min, Bool, true, false, List, [], ◌∷◌, length, get_or, take, drop, refl}
-use Rattle.std.proofs.Common.{sym, ap, subst, ◌∙◌, mul-le-mul, mul-le-mul_right, arith}
+use Rattle.std.specs.Prelude.{ℕ, suc, ◌+◌, ◌*◌, ◌<◌, ◌≤◌, Bool, List, [], ◌∷◌, length, drop}
+use Rattle.std.proofs.Common.{sym, subst, mul-le-mul, arith}
 use Rattle.std.proofs.lemmas.List.{get_or-drop, length-drop}
 use Rattle.item.specs.declared.records.Row.{Row}
 use Rattle.base_rules.specs.Verdicts.{may_owe}
-use Rattle.base_rules.specs.Programme.{block, hand, owed, blank, row_at}
+use Rattle.base_rules.specs.Programme.{hand, owed, blank, row_at}
 use Rattle.base_rules.specs.Bounds.{block_make}
 use Rattle.base_rules.specs.Told.{Limits, Told}
 

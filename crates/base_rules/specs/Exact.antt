@@ -1,10 +1,9 @@
 -- The programme's value is the least cost.
 use Rattle.std.specs.Prelude.{◌≡◌, ℕ, ◌≤◌, Bool, true, List, length, take, Some, None, Ok, Option, refl}
-use Rattle.std.proofs.Common.{sym, ap, ◌∙◌, arith}
+use Rattle.std.proofs.Common.{ap, ◌∙◌, arith}
 use Rattle.std.proofs.lemmas.List.{length-take-le}
 use Rattle.std.proofs.lemmas.Bool.{le-leb}
 use Rattle.item.specs.declared.records.Header.{Header}
-use Rattle.item.specs.declared.records.Lot.{Lot}
 use Rattle.item.specs.declared.records.Row.{Row}
 use Rattle.item.specs.Calls.{header_answer, named_least, least_answer, ProperHeld, held_of}
 use Rattle.item.specs.Laws.{lawful_rows}

@@ -1,16 +1,16 @@
 -- The base rules keep the laws of item rules.
-use Rattle.std.specs.Prelude.{◌≡◌, ℕ, zero, suc, ◌+◌, ◌-◌, ◌*◌, ◌≤◌, Bool, true, false, cond, not, ◌&&◌, ◌||◌, List, [], ◌∷◌, length, nat_le, nat_lt, refl}
-use Rattle.std.proofs.Common.{sym, ap₂, ◌∙◌, mul-add, add-mul, mul_assoc, mul-zero, arith}
+use Rattle.std.specs.Prelude.{◌≡◌, ℕ, zero, suc, ◌+◌, ◌-◌, ◌*◌, ◌≤◌, Bool, true, false, cond, not, ◌&&◌, List, [], ◌∷◌, length, nat_le, nat_lt, refl}
+use Rattle.std.proofs.Common.{sym, ◌∙◌, mul-add, add-mul, mul_assoc, mul-zero, arith}
 use Rattle.std.proofs.Math.Path.{ap}
 use Rattle.std.proofs.lemmas.Bool.{and_parts, and_from, or_left, leb-true, le-leb, lt-ltb, true≢false}
 use Rattle.item.specs.declared.records.Lot.{Lot}
 use Rattle.item.specs.declared.records.Row.{Row}
 use Rattle.item.specs.declared.records.Verdict.{Verdict}
 use Rattle.item.specs.declared.records.Verdict.TheVariants.{Cost, Fault}
-use Rattle.item.specs.Laws.{repriced_row, repriced, surcharge, dearer, idle_at, with_setup, setup_price, proper_fault, lawful_rows, PriceLaw, IdleLaw, SupplyLaw, FaultLaw, Laws}
+use Rattle.item.specs.Laws.{repriced_row, repriced, surcharge, dearer, idle_at, with_setup, setup_price, proper_fault, Laws}
 use Rattle.item.specs.Least.{lot}
 use Rattle.item.specs.Limits.{most_amount, most_rows, demands_within}
-use Rattle.base_rules.specs.Verdicts.{period_cost, may_owe, short_cause, plus, verdict_from, verdict, base_rule}
+use Rattle.base_rules.specs.Verdicts.{period_cost, may_owe, short_cause, plus, verdict_from, base_rule}
 use Rattle.base_rules.specs.Programme.{owed}
 use Rattle.base_rules.specs.Exact.{is_least}
 use Rattle.base_rules.specs.Fitting.{Fits, fits_rows}

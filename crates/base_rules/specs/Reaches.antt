@@ -1,11 +1,10 @@
 -- A fitting plan reaches the programme's value, so that it is the least.
-use Rattle.std.specs.Prelude.{◌≡◌, ℕ, zero, suc, ◌+◌, ◌-◌, ◌*◌, ◌<◌, ◌≤◌, min, Bool, true, false, cond, ◌⊎◌, List, [], ◌∷◌, Some, None, Option, refl}
-use Rattle.std.proofs.Common.{sym, ap, subst, ◌∙◌, inl, inr, ⊎_elim, mul-le-mul_right, arith}
+use Rattle.std.specs.Prelude.{◌≡◌, ℕ, zero, suc, ◌+◌, ◌*◌, ◌≤◌, min, Bool, true, false, List, [], ◌∷◌, refl}
+use Rattle.std.proofs.Common.{ap, subst, ◌∙◌, ⊎_elim, arith}
 use Rattle.std.proofs.lemmas.Bool.{cases_lt, both_ways}
 use Rattle.item.specs.declared.records.Lot.{Lot}
 use Rattle.item.specs.declared.records.Row.{Row}
-use Rattle.item.specs.declared.records.Verdict.{Verdict}
-use Rattle.item.specs.declared.records.Verdict.TheVariants.{Cost, Fault}
+use Rattle.item.specs.declared.records.Verdict.TheVariants.{Cost}
 use Rattle.item.specs.Least.{lot}
 use Rattle.base_rules.specs.Verdicts.{may_owe, verdict_from}
 use Rattle.base_rules.specs.Programme.{block, hand, owed}

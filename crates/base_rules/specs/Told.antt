@@ -1,11 +1,11 @@
 -- Rows that were told: few, and each within its limits.
-use Rattle.std.specs.Prelude.{◌≡◌, ℕ, zero, suc, ◌<◌, ◌≤◌, true, ◌&&◌, List, [], ◌∷◌, length, nat_le, refl}
-use Rattle.std.proofs.Common.{sym, ap, ◌∙◌, arith}
+use Rattle.std.specs.Prelude.{◌≡◌, ℕ, zero, suc, ◌<◌, ◌≤◌, true, List, [], ◌∷◌, length, nat_le, refl}
+use Rattle.std.proofs.Common.{arith}
 use Rattle.std.proofs.lemmas.Bool.{and_parts, and_from, leb-true, le-leb}
 use Rattle.item.specs.declared.records.Row.{Row}
 use Rattle.item.specs.Laws.{lawful_rows}
 use Rattle.item.specs.Limits.{most_rows, most_demand, row_within, rows_within, demands_within}
-use Rattle.base_rules.specs.Programme.{blank, row_at}
+use Rattle.base_rules.specs.Programme.{row_at}
 
 pub record Limits (r : Row) : Type 0 where
   pub setup : r.setup ≤ 20000000000

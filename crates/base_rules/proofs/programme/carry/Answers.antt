@@ -1,31 +1,30 @@
-use Rattle.std.proofs.Common.{◌≡◌, ℕ, ◌+◌, ◌-◌, ◌*◌, ◌<◌, ◌≤◌, min, length, get_or, set, sym, refl, ap, ◌∙◌, ⊎_elim, arith, rules}
+use Rattle.std.proofs.Common.{◌-◌, ◌<◌, length, refl, ap, ◌∙◌, ⊎_elim, arith, rules}
 use Rattle.std.proofs.lemmas.List.{get_or-set_same, get_or-set_other}
 use Rattle.std.proofs.lemmas.Bool.{cases_eq}
 use Rattle.best.specs.declared.entries.Candidate.{Candidate}
-use Rattle.base_rules.specs.Programme.{row_at, holding, aged, cost_at}
 use Rattle.base_rules.proofs.Steps.{holding_back, keep_cap}
-use Rattle.base_rules.specs.Told.{Told, told}
+use Rattle.base_rules.specs.Told.{told}
 use Rattle.base_rules.proofs.programme.carry.Goals as goal
 
-pub overflow-add-holding : goal.overflow-add-holding
-overflow-add-holding c = let k = holding_back c.args.rows.now c.loop-s.s c.args.t c.loop-s.holding (told c.args.rows.now c.requires.count c.requires.within) c.loop-s-test.true c.loop-s.auto.s c.requires.row c.loop-s.invariant.0 in search rules
+pub overflow_add-holding : goal.overflow_add-holding
+overflow_add-holding c = let k = holding_back c.args.rows.now c.loop-s.s c.args.t c.loop-s.holding (told c.args.rows.now c.requires.count c.requires.within) c.loop-s-test.true c.loop-s.auto.s c.requires.row c.loop-s.invariant.0 in search rules
 
-pub overflow-add-keep : goal.overflow-add-keep
-overflow-add-keep c =
+pub overflow_add-keep : goal.overflow_add-keep
+overflow_add-keep c =
     let k = holding_back c.args.rows.now c.loop-s.s c.args.t c.loop-s.holding (told c.args.rows.now c.requires.count c.requires.within) c.loop-s-test.true c.loop-s.auto.s c.requires.row c.loop-s.invariant.0 in
     let s = c.loop-s.auto.s in
     let u = ((told c.args.rows.now c.requires.count c.requires.within).1 (c.loop-s.s - 1) (omega arith)).unit in
     search rules
 
-pub overflow-mul-keep : goal.overflow-mul-keep
-overflow-mul-keep c =
+pub overflow_mul-keep : goal.overflow_mul-keep
+overflow_mul-keep c =
     let k = holding_back c.args.rows.now c.loop-s.s c.args.t c.loop-s.holding (told c.args.rows.now c.requires.count c.requires.within) c.loop-s-test.true c.loop-s.auto.s c.requires.row c.loop-s.invariant.0 in
     let s = c.loop-s.auto.s in
     let z = keep_cap c.args.rows.now (c.loop-s.s - 1) c.args.t _ (told c.args.rows.now c.requires.count c.requires.within) (omega arith) c.requires.row k.1 in
     search rules
 
-pub overflow-add-keep-in-loop-s : goal.overflow-add-keep-in-loop-s
-overflow-add-keep-in-loop-s c =
+pub overflow_add-keep-in-loop-s : goal.overflow_add-keep-in-loop-s
+overflow_add-keep-in-loop-s c =
     let k = holding_back c.args.rows.now c.loop-s.s c.args.t c.loop-s.holding (told c.args.rows.now c.requires.count c.requires.within) c.loop-s-test.true c.loop-s.auto.s c.requires.row c.loop-s.invariant.0 in
     let s = c.loop-s.auto.s in
     let z = keep_cap c.args.rows.now (c.loop-s.s - 1) c.args.t _ (told c.args.rows.now c.requires.count c.requires.within) (omega arith) c.requires.row k.1 in

@@ -1,5 +1,5 @@
 use Rattle.std.proofs.Common.{◌≡◌, ℕ, ◌+◌, ◌*◌, ◌<◌, ◌≤◌, min}
-use Rattle.base_rules.specs.Programme.{row_at, holding, aged, cost_at}
+use Rattle.base_rules.specs.Programme.{holding, aged, cost_at}
 use Rattle.base_rules.proofs.programme.carry.Given as goal
 
 abbrev pub invariant-loop-s : goal.invariant-loop-s

@@ -1,5 +1,5 @@
-use Rattle.std.proofs.Common.{◌≡◌, ℕ, ◌+◌, ◌-◌, ◌<◌, ◌≤◌, length, drop, sym, refl, ap, ◌∙◌, subst, arith, rules}
-use Rattle.base_rules.specs.Programme.{hand, owed, due, cost_at}
+use Rattle.std.proofs.Common.{◌≡◌, ◌+◌, ◌-◌, ◌<◌, length, refl, ap, ◌∙◌, subst, arith}
+use Rattle.base_rules.specs.Programme.{owed, due}
 use Rattle.base_rules.proofs.Grids.{Owes, Hands, owes_none, hands_none, owes_back, hands_back, hand_low, owed_low}
 use Rattle.base_rules.specs.Told.{told}
 use Rattle.base_rules.proofs.programme.least.Goals as goal
@@ -51,7 +51,7 @@ loop-t-preserved c =
     let row : t < length rs = omega arith in
     let o = subst (λ n. Owes b rs n c.loop-t.owed) back i.2 in
     let h = subst (λ n. Hands b rs n c.loop-t.hand) back i.3 in
-    let o' = owes_back b rs t row c.loop-t.owed c.owe.new.owed c.loop-t.hand c.may-owe-may.result _ o h c.may-owe-may.ensures refl c.owe.ensures.turns in
+    let o' = owes_back b rs t row c.loop-t.owed c.owe.new.owed c.loop-t.hand c.may_owe-may.result _ o h c.may_owe-may.ensures refl c.owe.ensures.turns in
     let h' = hands_back b rs t row c.loop-t.hand c.carry.new.hand c.owe.new.owed _ h o' refl c.carry.ensures.turns in
     (c.carry.auto.hand ∙ i.0, c.owe.auto.owed ∙ i.1, o', h')
 
@@ -61,5 +61,5 @@ returns c =
     let rs = c.args.rows.now in
     let none : c.loop-t.t ≡ 0 = omega arith in
     let o = subst (λ n. Owes b rs n c.loop-t.owed) none c.loop-t.invariant.2 in
-    let zero-due : due rs 0 0 ≡ 0 = omega arith in
-    o 0 (omega arith) ∙ ap (λ n. owed b n rs) zero-due
+    let zero_due : due rs 0 0 ≡ 0 = omega arith in
+    o 0 (omega arith) ∙ ap (λ n. owed b n rs) zero_due

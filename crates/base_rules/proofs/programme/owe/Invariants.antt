@@ -1,5 +1,5 @@
 use Rattle.std.proofs.Common.{◌≡◌, ℕ, ◌+◌, ◌*◌, ◌<◌, ◌≤◌}
-use Rattle.base_rules.specs.Programme.{block, row_at, due, cost_at}
+use Rattle.base_rules.specs.Programme.{block, due, cost_at}
 use Rattle.base_rules.proofs.programme.owe.Given as goal
 
 abbrev pub invariant-loop-a : goal.invariant-loop-a

@@ -8,4 +8,4 @@ returns c =
     let t = c.args.self.now.table in
     let len : length (take t.count t.rows) ≡ t.count = length-take-le t.count t.rows (omega (arith, t.few, t.long)) in
     let few : length (take t.count t.rows) ≤ 32 = omega (arith, t.few) in
-    ap Ok c.least-cost-cost.ensures ∙ sym (least_answer_lem _ t.opened _ (take t.count t.rows) c.in-ok-header.ensures few t.within)
+    ap Ok c.least_cost-cost.ensures ∙ sym (least_answer_lem _ t.opened _ (take t.count t.rows) c.in_ok-header.ensures few t.within)

@@ -49,7 +49,7 @@ module _ (way : Posting) (ts : List PricedTime) (all : List Entry) (end : ℤ) (
 -- what a posting that was answered with an entry did
 pub was_posted : (way : Posting) (n w : ℕ) (old new : ScaledMoney) (r : Result Entry TooLarge) (e : Entry) → r ≡ posted_entry way n old.kths w → new ≡ balanced old (posted way old.kths w) → r ≡ Ok e
     → (e ≡ entry way n old.kths w) × (new.kths ≡ posted way old.kths w)
-was_posted way n w old new r e r_is NewIs o = grind arith
+was_posted way n w old new r e r_is new_is o = grind arith
 
 -- ---- out, and back: from the balance b to b1, and from there to b2
 module _ (ns : List ℕ) (b b1 : ℤ) (out : b1 ≡ balance_after Charge b ns) where

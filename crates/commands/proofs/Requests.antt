@@ -1,10 +1,8 @@
 -- The words SCALE PRICE..., by how many there are.
-use Rattle.std.proofs.Common.{◌≡◌, ℕ, ◌<◌, ◌≤◌, Bool, true, false, cond, eqb, ltb, List, [], ◌∷◌, length, get_or, Some, Err, string_bytes, codes, Decides, String, sym, refl, ap, ◌∙◌, arith}
+use Rattle.std.proofs.Common.{◌≡◌, ℕ, ◌<◌, ◌≤◌, Bool, true, false, cond, eqb, ltb, List, [], ◌∷◌, length, get_or, Some, Err, string_bytes, codes, String, sym, refl, ap, ◌∙◌, arith}
 use Rattle.std.specs.declared.alloc.Global.{Global}
 use Rattle.std.specs.List.{between}
 use Rattle.std.specs.Str.{bytes_eq}
-use Rattle.std.proofs.lemmas.Slice.Eq.{bytes_eq-Decides}
-use Rattle.std.proofs.lemmas.Bool.Decides.{same_from_decides}
 use Rattle.std.proofs.lemmas.List.{length-map}
 use Rattle.std.proofs.lemmas.Slice.{first_rest}
 use Rattle.std.proofs.lemmas.Bool.{lt-ltb, le-ltb}
@@ -52,8 +50,8 @@ no_words [] h = refl
 no_words (w ∷ ws) h = absurd (omega arith)
 
 -- the answer, once the first word was held against the verb
-pub by_verb : (words : List (String Global)) (w : String Global) (text : List ℕ) (b : Bool) → 0 < length words → w ≡ get_or words 0 w → text ≡ string_bytes w → Decides b (text ≡ codes "minute")
+pub by_verb : (words : List (String Global)) (w : String Global) (text : List ℕ) (b : Bool) → 0 < length words → w ≡ get_or words 0 w → text ≡ string_bytes w → b ≡ bytes_eq text (codes "minute")
     → answer (texts words) ≡ cond b (minute_answer (minute_words (texts (between 1 (length words) words)))) (Err UnknownVerb)
 by_verb words w text b h w_is t_is d =
     ap answer (first_text words w text h w_is t_is)
-    ∙ ap (λ x. cond x (minute_answer (minute_words (texts (between 1 (length words) words)))) (Err UnknownVerb)) (sym (same_from_decides b (bytes_eq text (codes "minute")) d (bytes_eq-Decides text (codes "minute"))))
+    ∙ ap (λ x. cond x (minute_answer (minute_words (texts (between 1 (length words) words)))) (Err UnknownVerb)) (sym d)

@@ -1,9 +1,9 @@
 // The program `lotaudit`: prints what its words are answered with, or what is wrong with them.
 #![tactic(auto)]
 
-use anyhow::anyhow;
 use commands::run;
 use std::fmt::Display;
+use std::process::ExitCode;
 use std::{env, io};
 
 // The words after the program's name.
@@ -16,12 +16,12 @@ fn words_given(rt: &HostRuntime) -> io::Result<Vec<String>> {
 }
 
 // Says in one line why nothing was done, and ends with status 1.
-fn refuse(rt: &HostRuntime, why: impl Display + Drop) -> anyhow::Result<()> {
-    eprintln!(rt; "lotaudit: {why}")?;
-    Err(anyhow!("refused"))
+fn refuse(rt: &HostRuntime, why: impl Display + Drop) -> ExitCode {
+    let _ = eprintln!(rt; "lotaudit: {why}");
+    ExitCode::FAILURE
 }
 
-fn main(rt: HostRuntime) -> anyhow::Result<()> {
+fn main(rt: HostRuntime) -> ExitCode {
     let words = match words_given(&rt) {
         Ok(words) => words,
         Err(error) => return refuse(
@@ -33,7 +33,7 @@ fn main(rt: HostRuntime) -> anyhow::Result<()> {
     };
     match run(rt.alloc(), words.as_slice()) {
         Ok(text) => match rt.print(text) {
-            Ok(()) => Ok(()),
+            Ok(()) => ExitCode::SUCCESS,
             Err(error) => refuse(&rt, format_args!("the answer can not be printed, {error}")),
         },
         Err(error) => refuse(&rt, error),

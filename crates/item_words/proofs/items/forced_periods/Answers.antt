@@ -6,10 +6,10 @@ use Rattle.item_words.proofs.items.forced_periods.Goals as goal
 
 pub loop-field-init : goal.loop-field-init
 loop-field-init c =
-    let b = c.into_iter-field-iterator.ensures.into_iter-gives in (
+    let b = c.into_iter-field-iterator.ensures.into_iter_gives in (
       tt,
       tt,
-      none_forced c.args.word.now c.into_iter-field-iterator.result (ap split_pattern b ∙ c.split-field-items.ensures.pattern) (ap split_text b ∙ c.split-field-items.ensures.text) (ap split_has_more b ∙ c.split-field-items.ensures.Has-more),
+      none_forced c.args.word.now c.into_iter-field-iterator.result (ap split_pattern b ∙ c.split-field-items.ensures.pattern) (ap split_text b ∙ c.split-field-items.ensures.text) (ap split_has_more b ∙ c.split-field-items.ensures.has_more),
     )
 
 pub returns-in_err-period : goal.returns-in_err-period

@@ -48,7 +48,7 @@ pub fn least_line<R: ItemRule>(
     header: Header,
     rows: &[Row],
 ) -> Result<String, AllocError>
-    ensures { IfOk result (λ t. string_bytes t ≡ least_answer_text (item_least (meaning rule.old) header rows.now)) }
+    ensures { IfOk result (λ t. string_bytes t ≡ least_answer_text (item_least (R.meaning rule.old) header rows.now)) }
 {
     match item_least(rule, header, rows) {
         Ok(least) => format!(in heap; "least {least}\n"),
@@ -64,7 +64,7 @@ pub fn plan_line<R: ItemRule>(
     rows: &[Row],
     plan: &[Lot],
 ) -> Result<String, AllocError>
-    ensures { IfOk result (λ t. string_bytes t ≡ verdict_answer_text (item_verdict (meaning rule.old) header rows.now plan.now)) }
+    ensures { IfOk result (λ t. string_bytes t ≡ verdict_answer_text (item_verdict (R.meaning rule.old) header rows.now plan.now)) }
 {
     match item_verdict(rule, header, rows, plan) {
         Ok(verdict) => verdict_line(heap, verdict),

@@ -1,12 +1,13 @@
 #!/usr/bin/env python3
-"""Compares `lotaudit least` and `lotaudit weigh` with an enumeration of all plans of small random items.
+"""Answers `least` and `weigh` by an enumeration of all plans of small random items.
 
 It knows nothing of programmes: costs and faults are worked out from the definitions in docs/ITEM_RULES.md, and the least
 cost is the lowest over all plans with amounts up to one above the sum of the demands, each with and without a setup.
 
-    rt check lotaudit && tools/small_items.py --seed S --runs N
+    tools/small_items.py --cases --seed S --runs N
 
-`--cases` prints the calls and their answers as rows of a test's table instead, and runs nothing."""
+prints the calls and their answers as rows of a test's table. Without `--cases` a program is run on each call; it has to take the
+two verbs, which `lotaudit` does not do yet."""
 import argparse
 import itertools
 import random
@@ -85,7 +86,7 @@ def main():
     parser = argparse.ArgumentParser(description=__doc__.splitlines()[0])
     parser.add_argument("--seed", type=int, default=1)
     parser.add_argument("--runs", type=int, default=200)
-    parser.add_argument("--program", default="target/bin/lotaudit")
+    parser.add_argument("--program", default="crates/lotaudit/out/lotaudit")
     parser.add_argument("--cases", action="store_true")
     args = parser.parse_args()
     rng = random.Random(args.seed)

@@ -2,7 +2,7 @@
 ghost use Rattle.std.specs.Prelude.{◌≡◌, ℕ, ◌+◌, ◌*◌, ◌^◌, ◌<◌, ◌≤◌, min, true, length};
 ghost use Rattle.item.specs.Limits.{rows_within};
 ghost use Rattle.item.specs.Tables.{rows_in};
-ghost use Rattle.base_rules.specs.Programme.{block, owed as owedLeast, row_at, due, aged, cost_at};
+ghost use Rattle.base_rules.specs.Programme.{block, owed as owed_least, row_at, due, aged, cost_at};
 
 use crate::weighing::may_owe;
 use best::{Candidate, cheaper};
@@ -81,7 +81,7 @@ fn carry(rows: &[Row], t: usize, new: Candidate, hand: &mut [Candidate])
 fn least(rows: &[Row], backlog: bool) -> u64
     requires count { length rows.now ≤ 32 }
     requires within { rows_within rows.now ≡ true }
-    ensures { result ≡ owedLeast backlog 0 rows.now }
+    ensures { result ≡ owed_least backlog 0 rows.now }
 {
     let mut hand = [NO_LOT; 33];
     let mut owed = [NO_LOT; 33];
@@ -96,7 +96,7 @@ fn least(rows: &[Row], backlog: bool) -> u64
 
 // The same for the rows in a table.
 pub(crate) fn least_cost(table: &RowTable, backlog: bool) -> u64
-    ensures { result ≡ owedLeast backlog 0 (rows_in table.now) }
+    ensures { result ≡ owed_least backlog 0 (rows_in table.now) }
 {
     least(table.rows(), backlog)
 }

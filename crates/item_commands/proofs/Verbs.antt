@@ -1,5 +1,5 @@
 -- The answer to the words, once the first of them was held against the verbs.
-use Rattle.std.proofs.Common.{◌≡◌, ℕ, Bool, true, false, List, [], ◌∷◌, Some, None, Ok, Err, codes, Option, Result, sym, refl, ap, ◌∙◌}
+use Rattle.std.proofs.Common.{◌≡◌, ℕ, true, false, List, [], ◌∷◌, Some, None, Ok, Err, codes, Option, Result, sym, refl, ap, ◌∙◌}
 use Rattle.std.specs.Str.{bytes_eq}
 use Rattle.words.specs.declared.errors.Misuse.{Misuse}
 use Rattle.words.specs.declared.errors.Misuse.TheVariants.{UnknownVerb}
@@ -21,24 +21,17 @@ pub no_verb : (words : List (List ℕ)) → None ≡ first_word words → answer
 unfolding answer_first
 no_verb words e = by_first words ∙ sym (ap answer_first e)
 
-told : (v name : List ℕ) (b : Bool) → b ≡ bytes_eq v name → bytes_eq v name ≡ b
-told v name b d = sym d
-
 module _ (words : List (List ℕ)) (verb : List ℕ) (rest : List (List ℕ)) (first : Some (verb, rest) ≡ first_word words) where
   by_verb : answer words ≡ verb_answer verb rest
   unfolding answer_first
   by_verb = by_first words ∙ sym (ap answer_first first)
 
   pub as_least : true ≡ bytes_eq verb (codes "least") → answer words ≡ least_answer (item_words rest)
-  as_least l = let u = told verb (codes "least") true l in by_verb ∙ rw u refl
+  as_least l = by_verb ∙ rw (← l) refl
 
   module _ (l : false ≡ bytes_eq verb (codes "least")) where
     pub as_weigh : true ≡ bytes_eq verb (codes "weigh") → answer words ≡ plan_answer (plan_words rest)
-    as_weigh w =
-        let u = told verb (codes "least") false l in
-        let v = told verb (codes "weigh") true w in by_verb ∙ rw (u, v) refl
+    as_weigh w = by_verb ∙ rw (← l, ← w) refl
 
     pub as_unknown : false ≡ bytes_eq verb (codes "weigh") → answer words ≡ Err UnknownVerb
-    as_unknown w =
-        let u = told verb (codes "least") false l in
-        let v = told verb (codes "weigh") false w in by_verb ∙ rw (u, v) refl
+    as_unknown w = by_verb ∙ rw (← l, ← w) refl

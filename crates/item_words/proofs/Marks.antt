@@ -8,12 +8,8 @@ use Rattle.item.specs.declared.records.Lot.{Lot}
 use Rattle.words.specs.Readings.{number_below}
 use Rattle.item_words.specs.Items.{fields, forced_fields, forced_word, marked, unmarked, lot_of, lot_word}
 
--- the test of a word against `-`
-dash : (w : List ℕ) (b : Bool) → b ≡ bytes_eq w (codes "-") → bytes_eq w (codes "-") ≡ b
-dash w b d = sym d
-
 pub forced_by_dash : (w : List ℕ) (b : Bool) → b ≡ bytes_eq w (codes "-") → cond b (Some 0) (forced_fields 0 (fields w)) ≡ forced_word w
-forced_by_dash w b d = ap (λ x. cond x (Some 0) (forced_fields 0 (fields w))) (sym (dash w b d))
+forced_by_dash w b d = ap (λ x. cond x (Some 0) (forced_fields 0 (fields w))) d
 
 last_place : (w x : List ℕ) → w ≡ x ++ 33 ∷ [] → length x ≡ length w - 1
 last_place w x e = let l = length-append x (33 ∷ []) in let m = ap length e in omega arith
@@ -49,7 +45,7 @@ not_marked w h = by_test (marked w) refl
 
 module _ (w : List ℕ) (b : Bool) (d : b ≡ bytes_eq w (codes "-")) where
   by_dash : lot_word w ≡ cond b (Some (lot_of false 0)) (cond (marked w) (option_map (lot_of false) (number_below 32 (unmarked w))) (option_map (lot_of true) (number_below 32 w)))
-  by_dash = ap (λ x. cond x (Some (lot_of false 0)) (cond (marked w) (option_map (lot_of false) (number_below 32 (unmarked w))) (option_map (lot_of true) (number_below 32 w)))) (dash w b d)
+  by_dash = ap (λ x. cond x (Some (lot_of false 0)) (cond (marked w) (option_map (lot_of false) (number_below 32 (unmarked w))) (option_map (lot_of true) (number_below 32 w)))) (sym d)
 
 pub lot_dash : (w : List ℕ) → true ≡ bytes_eq w (codes "-") → Some (lot_of false 0) ≡ lot_word w
 lot_dash w d = sym (by_dash w true d)

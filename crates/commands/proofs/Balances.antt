@@ -1,11 +1,10 @@
 -- The balance after postings: it moves one way, and what is handed back undoes what was charged.
-use Rattle.std.proofs.Common.{◌≡◌, ℕ, ◌*◌, ◌^◌, ◌≤◌, false, List, [], ◌∷◌, length, ℤ, pos, negsuc, ◌-ℤ◌, Err, sum, refl, mul-le-mul_right, suc-mul, arith}
+use Rattle.std.proofs.Common.{◌≡◌, ℕ, ◌*◌, ◌^◌, ◌≤◌, false, List, [], ◌∷◌, length, ℤ, pos, negsuc, ◌-ℤ◌, Err, sum, refl, mul-le-mul, mul-le-mul_right, suc-mul, arith}
 use Rattle.money.specs.Range.{in_range}
 use Rattle.std.proofs.lemmas.Bool.{le-ltb}
 use Rattle.std.proofs.lemmas.List.Sums.{sum_by-cons}
 use Rattle.std.proofs.lemmas.Int.{ints}
 use Rattle.money.specs.Postings.{worth, charged, handed_back}
-use Rattle.money.proofs.Worths.{product_small}
 use Rattle.money.specs.declared.priced.PricedTime.{PricedTime}
 use Rattle.commands.specs.declared.ledger.Refusal.{Refusal}
 use Rattle.commands.specs.declared.ledger.Refusal.TheVariants.{Memory, OutOfRange}
@@ -45,7 +44,7 @@ worths_small : (ts : List PricedTime) → sum (worths ts) ≤ length ts * 100000
 worths_small [] = omega arith
 worths_small (t ∷ ts) =
     let h = worths_small ts in
-    let p = product_small t.price.kths t.minutes.count t.price.within t.minutes.within in
+    let p : worth t ≤ 100000000000000 = mul-le-mul t.price.most t.minutes.most in
     let s = suc-mul (length ts) 100000000000000 in
     let c = sum_by-cons (λ x. x) (worth t) (worths ts) in
     omega arith

@@ -3,7 +3,8 @@ use Rattle.std.proofs.Common.{◌≡◌, ℕ, ◌+◌, ◌<◌, ◌≤◌, true,
 use Rattle.std.proofs.lemmas.List.{drop_all}
 use Rattle.std.proofs.lemmas.Bool.{both_ways as never_both}
 use Rattle.money.specs.declared.amounts.OutOfRange.{OutOfRange as TooLarge}
-use Rattle.money.specs.declared.amounts.ScaledMoney.{ScaledMoney}
+use Rattle.money.specs.declared.amounts.Amount.{Amount}
+use Rattle.money.specs.declared.amounts.Kths.{Kths}
 use Rattle.money.specs.declared.priced.PricedTime.{PricedTime}
 use Rattle.money.specs.Range.{in_range, in_kths}
 use Rattle.money.specs.Postings.{worth, balanced}
@@ -47,8 +48,8 @@ module _ (way : Posting) (ts : List PricedTime) (all : List Entry) (end : ℤ) (
     all_beyond o = rw (sym balance_here) (stays_beyond way (posted way b (worth t)) (worths (drop (n + 1) ts)) o)
 
 -- what a posting that was answered with an entry did
-pub was_posted : (way : Posting) (n w : ℕ) (old new : ScaledMoney) (r : Result Entry TooLarge) (e : Entry) → r ≡ posted_entry way n old.kths w → new ≡ balanced old (posted way old.kths w) → r ≡ Ok e
-    → (e ≡ entry way n old.kths w) × (new.kths ≡ posted way old.kths w)
+pub was_posted : (way : Posting) (n w : ℕ) (old new : Amount Kths) (r : Result Entry TooLarge) (e : Entry) → r ≡ posted_entry way n old.count w → new ≡ balanced old (posted way old.count w) → r ≡ Ok e
+    → (e ≡ entry way n old.count w) × (new.count ≡ posted way old.count w)
 was_posted way n w old new r e r_is new_is o = grind arith
 
 -- ---- out, and back: from the balance b to b1, and from there to b2
@@ -56,7 +57,7 @@ module _ (ns : List ℕ) (b b1 : ℤ) (out : b1 ≡ balance_after Charge b ns) w
   pub both_ways : (l0 l1 l2 : List Entry) → l0 ≡ [] → l1 ≡ l0 ++ entries Charge 0 b ns → l2 ≡ l1 ++ entries HandBack 0 b1 ns → l2 ≡ out_and_back b ns
   both_ways l0 l1 l2 e0 e1 e2 = rw (e2, e1, e0, out)
 
-  pub came_back : (m0 m2 : ScaledMoney) → m0.kths ≡ b → m2.kths ≡ balance_after HandBack b1 ns → m2 ≡ m0
+  pub came_back : (m0 m2 : Amount Kths) → m0.count ≡ b → m2.count ≡ balance_after HandBack b1 ns → m2 ≡ m0
   came_back m0 m2 e0 e2 = ap in_kths (e2 ∙ ap (λ v. balance_after HandBack v ns) out ∙ restored b ns ∙ sym e0)
 
   -- handing back never leaves the range

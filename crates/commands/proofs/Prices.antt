@@ -42,6 +42,6 @@ module _ (words : List (String Global)) (all : Result (List ℕ) Misuse) (n : �
         ∙ sym (ap (λ o. before xs (minute_then n o (one_minute (n + 1) (texts (drop (n + 1) words))))) e)
         ∙ here
 
-pub pushed_minute : (items more : List PricedTime) (t : PricedTime) → t.minutes.count ≡ 1 → more ≡ items ++ t ∷ [] → worths more ≡ worths items ++ t.price.kths * 1 ∷ []
+pub pushed_minute : (items more : List PricedTime) (t : PricedTime) → t.minutes.number ≡ 1 → more ≡ items ++ t ∷ [] → worths more ≡ worths items ++ t.price.number * 1 ∷ []
 pushed_minute items more t one e =
-    ap worths e ∙ map_push worth items t ∙ ap (λ n. worths items ++ t.price.kths * n ∷ []) one
+    ap worths e ∙ map_push worth items t ∙ ap (λ n. worths items ++ t.price.number * n ∷ []) one

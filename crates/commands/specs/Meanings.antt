@@ -70,7 +70,7 @@ worths_in times = worths (vec_items times)
 
 -- the request that an answer holds
 abbrev pub request_in : MinuteRequest → Minute
-request_in q = record { scale = q.scale.k; worths = worths_in q.times }
+request_in q = record { scale = q.scale.number; worths = worths_in q.times }
 
 -- r is what was meant, by what `held` reads of it, unless memory was short
 abbrev pub Means : {X Y : Type 0} → (X → Y) → Result X CommandError → Result Y Misuse → Type 0

@@ -19,7 +19,7 @@ posting_text HandBack = codes "handed back"
 -- an entry, as in `period 0: charged 1, balance 1`
 abbrev pub entry_text : Entry → List ℕ
 entry_text e =
-    codes "period " ++ (decimal e.period ++ (codes ": " ++ (posting_text e.posting ++ (codes " " ++ (signed_decimal e.amount.kths ++ (codes ", balance " ++ signed_decimal e.balance.kths))))))
+    codes "period " ++ (decimal e.period ++ (codes ": " ++ (posting_text e.posting ++ (codes " " ++ (signed_decimal e.amount.count ++ (codes ", balance " ++ signed_decimal e.balance.count))))))
 
 -- the end of a statement
 abbrev pub closing : ℤ → List ℕ

@@ -82,9 +82,9 @@ fn post(
     period: usize,
     time: PricedTime,
 ) -> Result<Entry, OutOfRange>
-    ensures answer { result ≡ posted_entry posting period account.old.balance.kths (worth time) }
-    ensures balance { account.new.balance ≡ balanced account.old.balance (posted posting account.old.balance.kths (worth time)) }
-    ensures cause { OnErr result (Beyond posting (posted posting account.old.balance.kths (worth time))) }
+    ensures answer { result ≡ posted_entry posting period account.old.balance.count (worth time) }
+    ensures balance { account.new.balance ≡ balanced account.old.balance (posted posting account.old.balance.count (worth time)) }
+    ensures cause { OnErr result (Beyond posting (posted posting account.old.balance.count (worth time))) }
 {
     let amount = match posting {
         Posting::Charge => account.charge(time)?,
@@ -104,9 +104,9 @@ fn post_all(
     times: &[PricedTime],
     ledger: &mut Vec<Entry>,
 ) -> Result<(), Refusal>
-    ensures ledger { OnOk result (ledger.new.items ≡ ledger.old.items ++ entries posting 0 account.old.balance.kths (worths times.now)) }
-    ensures balance { OnOk result (account.new.balance.kths ≡ balance_after posting account.old.balance.kths (worths times.now)) }
-    ensures cause { IfErr result (λ e. e ≡ TooLarge → Beyond posting (balance_after posting account.old.balance.kths (worths times.now))) }
+    ensures ledger { OnOk result (ledger.new.items ≡ ledger.old.items ++ entries posting 0 account.old.balance.count (worths times.now)) }
+    ensures balance { OnOk result (account.new.balance.count ≡ balance_after posting account.old.balance.count (worths times.now)) }
+    ensures cause { IfErr result (λ e. e ≡ TooLarge → Beyond posting (balance_after posting account.old.balance.count (worths times.now))) }
 {
     for (period, time) in times.iter().enumerate() {
         let entry = post(account, posting, period, *time)?;
@@ -121,7 +121,7 @@ pub fn out_and_back(
     account: &mut TimeAccount,
     times: &[PricedTime],
 ) -> Result<Vec<Entry>, Refusal>
-    ensures answer { Answers result account.old.balance.kths (worths times.now) }
+    ensures answer { Answers result account.old.balance.count (worths times.now) }
     ensures same { account.new.balance ≡ account.old.balance }
 {
     let mut working = *account;

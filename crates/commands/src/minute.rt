@@ -22,7 +22,7 @@ pub struct Statement {
 impl Statement {
     // Opens an account at zero, charges every period's minutes out and hands the same back.
     pub fn new(heap: Global, scale: Scale, times: &[PricedTime]) -> Result<Statement, Refusal>
-        ensures closed { IfOk result (λ s. Closed scale.k (worths times.now) s) }
+        ensures closed { IfOk result (λ s. Closed scale.number (worths times.now) s) }
         ensures cause { IfErr result (λ e. e ≡ OutOfRange → Beyond Charge (all_out (pos 0) (worths times.now))) }
         ensures few { length times.now ≤ 32 → IfErr result (λ e. e ≡ Memory) }
     {
@@ -39,7 +39,7 @@ impl Statement {
     }
 
     pub fn text(&self, heap: Global) -> Result<String, AllocError>
-        ensures { IfOk result (λ t. string_bytes t ≡ statement_text self.now.scale.k self.now.ledger.items self.now.balance.kths self.now.whole.units) }
+        ensures { IfOk result (λ t. string_bytes t ≡ statement_text self.now.scale.number self.now.ledger.items self.now.balance.count self.now.whole.count) }
     {
         let mut text = String::new(heap);
         let ledger = self.ledger.as_slice();
@@ -53,7 +53,7 @@ impl Statement {
     }
 
     fn last_line(&self, heap: Global) -> Result<String, AllocError>
-        ensures { IfOk result (λ t. string_bytes t ≡ balance_text self.now.scale.k self.now.balance.kths self.now.whole.units) }
+        ensures { IfOk result (λ t. string_bytes t ≡ balance_text self.now.scale.number self.now.balance.count self.now.whole.count) }
     {
         let balance = self.balance;
         let k = self.scale.k();
@@ -65,7 +65,7 @@ impl Statement {
 
 // The end of a statement's last line.
 fn ending(balance: ScaledMoney) -> &'static str
-    ensures { result.now ≡ closing balance.kths }
+    ensures { result.now ≡ closing balance.count }
 {
     if balance.is_zero() {
         ", closed\n"

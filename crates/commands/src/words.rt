@@ -18,16 +18,16 @@ pub struct MinuteRequest {
 }
 
 fn scale_word(word: &str) -> Option<Scale>
-    ensures { option_map (λ s. s.k) result ≡ scale_word word.now }
+    ensures { option_map (λ s. s.number) result ≡ scale_word word.now }
 {
-    let Ok(k) = word.parse::<u16>() else {
+    let Ok(k) = word.parse::<u32>() else {
         return None;
     };
     Scale::new(k)
 }
 
 fn price_word(word: &str) -> Option<CapacityPrice>
-    ensures { option_map (λ p. p.kths) result ≡ price_word word.now }
+    ensures { option_map (λ p. p.number) result ≡ price_word word.now }
 {
     let Ok(kths) = word.parse::<u32>() else {
         return None;
@@ -55,7 +55,7 @@ fn one_minute_each(heap: Global, words: &[String]) -> Result<Vec<PricedTime>, Co
 
 // The prices after a scale: 1 to 32 of them.
 fn price_words(heap: Global, scale: Scale, words: &[String]) -> Result<MinuteRequest, CommandError>
-    ensures means { Means request_in result (price_words (Some scale.k) (texts words.now)) }
+    ensures means { Means request_in result (price_words (Some scale.number) (texts words.now)) }
     ensures few { IfOk result (λ q. vec_len q.times ≤ 32) }
 {
     if words.is_empty() {

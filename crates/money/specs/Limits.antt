@@ -1,14 +1,14 @@
--- The limits of a scale, of a capacity price and of a period's minutes.
+-- The limits of a scale and of a capacity price.
 use Rattle.std.specs.Prelude.{ℕ, cond, ◌&&◌, Some, None, Option, nat_le}
+
+-- a number, if it is from `least` to `most`
+abbrev pub within : ℕ → ℕ → ℕ → Option ℕ
+within least most n = cond (nat_le least n && nat_le n most) (Some n) None
 
 -- a scale is 1 to 1,000
 abbrev pub scale_of : ℕ → Option ℕ
-scale_of k = cond (nat_le 1 k && nat_le k 1000) (Some k) None
+scale_of = within 1 1000
 
 -- a capacity price is at most 100,000 K-ths a minute
 abbrev pub price_of : ℕ → Option ℕ
-price_of kths = cond (nat_le kths 100000) (Some kths) None
-
--- a period has at most 1,000,000,000 minutes
-abbrev pub minutes_of : ℕ → Option ℕ
-minutes_of count = cond (nat_le count 1000000000) (Some count) None
+price_of = within 0 100000

@@ -1,16 +1,21 @@
 -- Exact results, and the range in which they are kept.
 use Rattle.std.specs.Prelude.{◌^◌, Bool, false, cond, ℤ, pos, negsuc, Ok, Err, Result, ◌==◌, nat_lt}
-use Rattle.money.specs.declared.amounts.Money.{Money}
-use Rattle.money.specs.declared.amounts.ScaledMoney.{ScaledMoney}
+use Rattle.money.specs.declared.amounts.Amount.{Amount}
+use Rattle.money.specs.declared.amounts.Kths.{Kths}
 use Rattle.money.specs.declared.amounts.OutOfRange.{OutOfRange}
+use Rattle.money.specs.declared.amounts.Whole.{Whole}
+
+-- this many of a unit
+abbrev pub amount : {U : Type 0} → ℤ → Amount U
+amount v = record { count = v; unit = record {} }
 
 -- whole money of this many units
-abbrev pub whole : ℤ → Money
-whole v = record { units = v }
+abbrev pub whole : ℤ → Amount Whole
+whole v = amount v
 
 -- money of this many K-ths
-abbrev pub in_kths : ℤ → ScaledMoney
-in_kths v = record { kths = v }
+abbrev pub in_kths : ℤ → Amount Kths
+in_kths v = amount v
 
 -- nothing is owed either way
 abbrev pub is_zero : ℤ → Bool

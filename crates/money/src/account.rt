@@ -10,7 +10,7 @@ mod postings;
 #[derive(Clone, Copy, Debug, PartialEq, Eq)]
 pub struct TimeAccount {
     balance: ScaledMoney,
-    ghost held: { in_range balance.kths ≡ true },
+    ghost held: { in_range balance.count ≡ true },
 }
 
 impl TimeAccount {

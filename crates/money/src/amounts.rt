@@ -1,118 +1,97 @@
-// Whole money and money in K-ths. One comes from the other by scaling up, or by the one division, and in no other way.
+// Amounts of money in whole units and in K-ths. One comes from the other by scaling up, or by the one division, and in no other way.
 ghost use Rattle.std.specs.Prelude.{◌≡◌, pos, ◌+ℤ◌, ◌-ℤ◌, ◌*ℤ◌, Some};
 ghost use Rattle.std.specs.Fmt.{signed_decimal};
-ghost use Rattle.money.specs.Range.{exactly, whole, in_kths, is_zero};
+ghost use Rattle.money.specs.Range.{exactly, amount, whole, in_kths, is_zero};
 ghost use Rattle.money.specs.Rounding.{divided_up, RoundedUp};
 
-use crate::scales::Scale;
+use crate::limits::Scale;
 use std::fmt;
+use std::marker::PhantomData;
 
-// Whole money. A bound may be below zero.
+// The unit of whole money.
 #[derive(Clone, Copy, Debug, PartialEq, Eq)]
-pub struct Money {
-    units: i64,
+pub struct Whole;
+
+// The unit of money in K-ths of the whole, at a scale K that its holder knows.
+#[derive(Clone, Copy, Debug, PartialEq, Eq)]
+pub struct Kths;
+
+// So many of a unit. A bound may be below zero.
+#[derive(Clone, Copy, Debug, PartialEq, Eq)]
+pub struct Amount<U> {
+    count: i64,
+    unit: PhantomData<U>,
 }
 
-// Money in K-ths of the whole, at a scale K that its holder knows.
-#[derive(Clone, Copy, Debug, PartialEq, Eq)]
-pub struct ScaledMoney {
-    kths: i64,
-}
+pub type Money = Amount<Whole>;
+
+pub type ScaledMoney = Amount<Kths>;
 
 // The exact result is outside the numbers that 64 bits with a sign hold.
 #[derive(Clone, Copy, Debug, PartialEq, Eq)]
 pub struct OutOfRange;
 
+impl<U> Amount<U> {
+    pub fn new(count: i64) -> Self
+        ensures { result ≡ amount count }
+    {
+        Amount {
+            count,
+            unit: PhantomData,
+        }
+    }
+
+    pub fn checked_add(self, other: Self) -> Result<Self, OutOfRange>
+        ensures { result ≡ exactly amount (self.count +ℤ other.count) }
+    {
+        let count = self.count.checked_add(other.count).ok_or(OutOfRange)?;
+        Ok(Amount::new(count))
+    }
+
+    pub fn checked_sub(self, other: Self) -> Result<Self, OutOfRange>
+        ensures { result ≡ exactly amount (self.count -ℤ other.count) }
+    {
+        let count = self.count.checked_sub(other.count).ok_or(OutOfRange)?;
+        Ok(Amount::new(count))
+    }
+}
+
 impl Money {
-    pub fn new(units: i64) -> Money
-        ensures { result ≡ whole units }
-    {
-        Money { units }
-    }
-
-    pub fn checked_add(self, other: Money) -> Result<Money, OutOfRange>
-        ensures { result ≡ exactly whole (self.units +ℤ other.units) }
-    {
-        let units = self.units.checked_add(other.units).ok_or(OutOfRange)?;
-        Ok(Money { units })
-    }
-
-    pub fn checked_sub(self, other: Money) -> Result<Money, OutOfRange>
-        ensures { result ≡ exactly whole (self.units -ℤ other.units) }
-    {
-        let units = self.units.checked_sub(other.units).ok_or(OutOfRange)?;
-        Ok(Money { units })
-    }
-
     // The same money in K-ths.
     pub fn scaled(self, scale: Scale) -> Result<ScaledMoney, OutOfRange>
-        ensures { result ≡ exactly in_kths (self.units *ℤ pos scale.k) }
+        ensures { result ≡ exactly in_kths (self.count *ℤ pos scale.number) }
     {
-        let kths = self.units.checked_mul(scale.k() as i64).ok_or(OutOfRange)?;
-        Ok(ScaledMoney { kths })
+        let kths = self.count.checked_mul(scale.k() as i64).ok_or(OutOfRange)?;
+        Ok(ScaledMoney::new(kths))
     }
 }
 
 impl ScaledMoney {
-    pub fn new(kths: i64) -> ScaledMoney
-        ensures { result ≡ in_kths kths }
-    {
-        ScaledMoney { kths }
-    }
-
-    pub fn checked_add(self, other: ScaledMoney) -> Result<ScaledMoney, OutOfRange>
-        ensures { result ≡ exactly in_kths (self.kths +ℤ other.kths) }
-    {
-        let kths = self.kths.checked_add(other.kths).ok_or(OutOfRange)?;
-        Ok(ScaledMoney { kths })
-    }
-
-    pub fn checked_sub(self, other: ScaledMoney) -> Result<ScaledMoney, OutOfRange>
-        ensures { result ≡ exactly in_kths (self.kths -ℤ other.kths) }
-    {
-        let kths = self.kths.checked_sub(other.kths).ok_or(OutOfRange)?;
-        Ok(ScaledMoney { kths })
-    }
-
     pub fn is_zero(self) -> bool
-        ensures { result ≡ is_zero self.kths }
+        ensures { result ≡ is_zero self.count }
     {
-        self.kths == 0
+        self.count == 0
     }
 
     // The whole money of these K-ths, rounded up: the one division.
     pub fn rounded_up(self, scale: Scale) -> Money
-        ensures value { result ≡ whole (divided_up self.kths scale.k) }
-        ensures least { RoundedUp self.kths scale.k result.units }
+        ensures value { result ≡ whole (divided_up self.count scale.number) }
+        ensures least { RoundedUp self.count scale.number result.count }
     {
         let k = scale.k() as i64;
-        if self.kths <= 0 {
-            Money {
-                units: self.kths / k,
-            }
+        Money::new(if self.count <= 0 {
+            self.count / k
         } else {
-            Money {
-                units: (self.kths - 1) / k + 1,
-            }
-        }
+            (self.count - 1) / k + 1
+        })
     }
 }
 
-impl fmt::Display for Money {
-    ghost output = { λ m. Some (signed_decimal m.units) };
+impl<U> fmt::Display for Amount<U> {
+    ghost output = { λ m. Some (signed_decimal m.count) };
 
     fn fmt<W: fmt::Write>(&self, f: &mut fmt::Formatter<W>) -> fmt::Result {
-        let units = self.units;
-        write!(f, "{units}")
-    }
-}
-
-impl fmt::Display for ScaledMoney {
-    ghost output = { λ m. Some (signed_decimal m.kths) };
-
-    fn fmt<W: fmt::Write>(&self, f: &mut fmt::Formatter<W>) -> fmt::Result {
-        let kths = self.kths;
-        write!(f, "{kths}")
+        write!(f, "{}", self.count)
     }
 }
 

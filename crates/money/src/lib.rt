@@ -3,12 +3,12 @@
 
 mod account;
 mod amounts;
+mod limits;
 mod priced;
-mod scales;
 #[cfg(test)]
 mod tests;
 
 pub use account::TimeAccount;
-pub use amounts::{Money, OutOfRange, ScaledMoney};
-pub use priced::{CapacityPrice, Minutes, PricedTime};
-pub use scales::Scale;
+pub use amounts::{Amount, Kths, Money, OutOfRange, ScaledMoney, Whole};
+pub use limits::{CapacityPrice, Minutes, Scale, Within};
+pub use priced::PricedTime;

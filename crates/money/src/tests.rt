@@ -1,11 +1,11 @@
 // Cases worked out by hand.
 use crate::account::TimeAccount;
 use crate::amounts::{Money, OutOfRange, ScaledMoney};
-use crate::priced::{CapacityPrice, Minutes, PricedTime};
-use crate::scales::Scale;
+use crate::limits::{CapacityPrice, Minutes, Scale};
+use crate::priced::PricedTime;
 use std::test::Fail;
 
-fn scale(k: u16) -> Result<Scale, Fail> {
+fn scale(k: u32) -> Result<Scale, Fail> {
     let Some(scale) = Scale::new(k) else {
         return Err(Fail::new("no scale"));
     };
@@ -90,7 +90,8 @@ fn keeps_its_limits(rt: HostRuntime) {
         (1, true),
         (1000, true),
         (1001, false),
-        (u16::MAX, false),
+        (65535, false),
+        (u32::MAX, false),
     ] {
         assert_eq!(rt; Scale::new(k).is_some(), within);
     }

@@ -9,8 +9,8 @@ use crate::priced::PricedTime;
 impl TimeAccount {
     // Charges the minutes at their price, and answers what they came to.
     pub fn charge(&mut self, time: PricedTime) -> Result<ScaledMoney, OutOfRange>
-        ensures answer { result ≡ answered (charged self.old.balance.kths (worth time)) (worth time) }
-        ensures balance { self.new.balance ≡ balanced self.old.balance (charged self.old.balance.kths (worth time)) }
+        ensures answer { result ≡ answered (charged self.old.balance.count (worth time)) (worth time) }
+        ensures balance { self.new.balance ≡ balanced self.old.balance (charged self.old.balance.count (worth time)) }
     {
         let amount = time.worth();
         self.balance = self.balance.checked_add(amount)?;
@@ -19,8 +19,8 @@ impl TimeAccount {
 
     // Hands the minutes back at their price, and answers what they came to.
     pub fn hand_back(&mut self, time: PricedTime) -> Result<ScaledMoney, OutOfRange>
-        ensures answer { result ≡ answered (handed_back self.old.balance.kths (worth time)) (worth time) }
-        ensures balance { self.new.balance ≡ balanced self.old.balance (handed_back self.old.balance.kths (worth time)) }
+        ensures answer { result ≡ answered (handed_back self.old.balance.count (worth time)) (worth time) }
+        ensures balance { self.new.balance ≡ balanced self.old.balance (handed_back self.old.balance.count (worth time)) }
     {
         let rebate = time.worth();
         self.balance = self.balance.checked_sub(rebate)?;

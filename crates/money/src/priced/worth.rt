@@ -11,7 +11,7 @@ impl PricedTime {
     pub fn worth(self) -> ScaledMoney
         ensures { result ≡ in_kths (pos (worth self)) }
     {
-        let kths = self.price.kths as u64 * self.minutes.count as u64;
+        let kths = self.price.number as u64 * self.minutes.number as u64;
         ScaledMoney::new(kths as i64)
     }
 }

@@ -15,11 +15,11 @@ pub loop-period-preserved : goal.loop-period-preserved
 loop-period-preserved c =
     let o = was_posted c.args.posting c.loop-period.period (worth c.index-times-period.result) c.loop-period.account.balance c.post.new.account.balance c.post.result c.in_ok-entry.entry c.post.ensures.answer c.post.ensures.balance c.in_ok-entry.was in
     one_more c.args.posting c.args.times.now
-    (vec_items c.args.ledger.now ++ entries c.args.posting 0 c.args.account.now.balance.kths (worths c.args.times.now))
-    (balance_after c.args.posting c.args.account.now.balance.kths (worths c.args.times.now))
-    c.loop-period.period (vec_items c.loop-period.ledger) c.loop-period.account.balance.kths c.loop-period.invariant
+    (vec_items c.args.ledger.now ++ entries c.args.posting 0 c.args.account.now.balance.count (worths c.args.times.now))
+    (balance_after c.args.posting c.args.account.now.balance.count (worths c.args.times.now))
+    c.loop-period.period (vec_items c.loop-period.ledger) c.loop-period.account.balance.count c.loop-period.invariant
     c.index-times-period.result c.loop-period-test.true c.index-times-period.is
-    (vec_items c.push.new.self) c.in_ok-entry.entry c.post.new.account.balance.kths c.in_ok-push.ensures.items o.0 o.1
+    (vec_items c.push.new.self) c.in_ok-entry.entry c.post.new.account.balance.count c.in_ok-push.ensures.items o.0 o.1
 
 pub returns : goal.returns
 returns c =

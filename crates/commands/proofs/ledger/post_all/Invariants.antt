@@ -6,6 +6,6 @@ use Rattle.commands.proofs.ledger.post_all.Given as goal
 abbrev pub invariant-loop-period : goal.invariant-loop-period
 invariant-loop-period l =
     Sofar l.posting l.times
-    (vec_items l.initial.ledger ++ entries l.posting 0 l.initial.account.balance.kths (worths l.times))
-    (balance_after l.posting l.initial.account.balance.kths (worths l.times))
-    l.period (vec_items l.ledger) l.account.balance.kths
+    (vec_items l.initial.ledger ++ entries l.posting 0 l.initial.account.balance.count (worths l.times))
+    (balance_after l.posting l.initial.account.balance.count (worths l.times))
+    l.period (vec_items l.ledger) l.account.balance.count

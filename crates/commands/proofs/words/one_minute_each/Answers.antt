@@ -16,7 +16,7 @@ pub loop-period-preserved : goal.loop-period-preserved
 loop-period-preserved c =
     let m = pushed_minute (vec_items c.loop-period.times) (vec_items c.push.new.self) (record { price = c.in-Some.price; minutes = c.one.result }) c.one.ensures c.in_ok-push.ensures.items in (
       one_read c.args.words.now (one_minute 0 (texts c.args.words.now)) c.loop-period.period (worths (vec_items c.loop-period.times)) c.loop-period.invariant.0 c.index-words-period.result c.loop-period-test.true c.index-words-period.is
-          c.in-Some.price.kths (worths (vec_items c.push.new.self)) (ap price_word (sym c.as_str.ensures.value) ∙ sym c.in-Some.ensures) m,
+          c.in-Some.price.number (worths (vec_items c.push.new.self)) (ap price_word (sym c.as_str.ensures.value) ∙ sym c.in-Some.ensures) m,
       omega (arith, c.in_ok-push.ensures.len, c.loop-period.invariant.1),
     )
 

@@ -6,8 +6,8 @@ use Rattle.commands.proofs.words.scale_word.Goals as goal
 
 pub returns-in_default : goal.returns-in_default
 returns-in_default c =
-    sym (at_no_number 16 scale_of c.args.word.now c.parse.result c.parse.ensures.value.0 _ (λ n high. grind (arith, nat_tests)) c.in_default.is)
+    sym (at_no_number 32 scale_of c.args.word.now c.parse.result c.parse.ensures.value.0 _ (λ n high. grind (arith, nat_tests)) c.in_default.is)
 
 pub returns : goal.returns
 returns c =
-    c.new.ensures ∙ sym (at_number 16 scale_of c.args.word.now c.parse.result c.parse.ensures.value.0 c.in-Ok.k c.in-Ok.is)
+    c.new.ensures ∙ sym (at_number 32 scale_of c.args.word.now c.parse.result c.parse.ensures.value.0 c.in-Ok.k c.in-Ok.is)

@@ -9,5 +9,5 @@ loop-posted-preserved c =
 pub returns : goal.returns
 returns c =
     text_whole c.as_slice-ledger.result.now c.loop-posted.posted-index _ c.loop-posted.invariant
-    c.args.self.now.scale.k c.args.self.now.balance.kths c.args.self.now.whole.units _ _ _ _
+    c.args.self.now.scale.number c.args.self.now.balance.count c.args.self.now.whole.count _ _ _ _
     c.loop-posted-test.false c.as_slice-ledger.ensures.value c.in_ok-line-2.ensures c.as_str-2.ensures.value c.in_ok-push_str-2.ensures.bytes

@@ -1,16 +1,14 @@
 -- The words SCALE PRICE..., by how many there are.
-use Rattle.std.proofs.Common.{◌≡◌, ℕ, ◌<◌, ◌≤◌, Bool, true, false, cond, eqb, ltb, List, [], ◌∷◌, length, get_or, Some, Err, string_bytes, codes, String, sym, refl, ap, ◌∙◌, arith}
+use Rattle.std.proofs.Common.{◌≡◌, ℕ, ◌<◌, ◌≤◌, true, false, eqb, ltb, List, [], ◌∷◌, length, get_or, Some, Err, string_bytes, String, sym, refl, ap, ◌∙◌, arith}
 use Rattle.std.specs.declared.alloc.Global.{Global}
 use Rattle.std.specs.List.{between}
-use Rattle.std.specs.Str.{bytes_eq}
 use Rattle.std.proofs.lemmas.List.{length-map}
 use Rattle.std.proofs.lemmas.Slice.{first_rest}
 use Rattle.std.proofs.lemmas.Bool.{lt-ltb, le-ltb}
 use Rattle.commands.specs.declared.errors.CommandError.{CommandError}
 use Rattle.commands.specs.declared.errors.CommandError.TheVariants.{Memory, Misused}
-use Rattle.commands.specs.declared.errors.Misuse.TheVariants.{UnknownVerb, NoPrice, TooManyPrices}
-use Rattle.commands.specs.Printed.{answer, minute_answer}
-use Rattle.commands.specs.Meanings.{texts, one_minute, at_scale, price_words, minute_words, worths_in, request_in, Means}
+use Rattle.commands.specs.declared.errors.Misuse.TheVariants.{NoPrice, TooManyPrices}
+use Rattle.commands.specs.Meanings.{texts, one_minute, at_scale, price_words, worths_in, request_in, Means}
 
 module _ (k : ℕ) (words : List (String Global)) where
   texts_length : length (texts words) ≡ length words
@@ -48,10 +46,3 @@ first_text words w text h w_is t_is =
 pub no_words : (words : List (String Global)) → length words < 1 → texts words ≡ []
 no_words [] h = refl
 no_words (w ∷ ws) h = absurd (omega arith)
-
--- the answer, once the first word was held against the verb
-pub by_verb : (words : List (String Global)) (w : String Global) (text : List ℕ) (b : Bool) → 0 < length words → w ≡ get_or words 0 w → text ≡ string_bytes w → b ≡ bytes_eq text (codes "minute")
-    → answer (texts words) ≡ cond b (minute_answer (minute_words (texts (between 1 (length words) words)))) (Err UnknownVerb)
-by_verb words w text b h w_is t_is d =
-    ap answer (first_text words w text h w_is t_is)
-    ∙ ap (λ x. cond x (minute_answer (minute_words (texts (between 1 (length words) words)))) (Err UnknownVerb)) (sym d)

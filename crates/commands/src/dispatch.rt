@@ -1,32 +1,26 @@
 // From the program's words to its answer.
-ghost use Rattle.std.specs.Prelude.{◌≡◌, IfOk, string_bytes};
+ghost use Rattle.std.specs.Prelude.{string_bytes};
 ghost use Rattle.commands.specs.Meanings.{texts, minute_words, Means};
 ghost use Rattle.commands.specs.Printed.{minute_answer, answer};
-ghost use Rattle.commands.specs.Texts.{usage_text};
 
 use crate::errors::{CommandError, Misuse};
 use crate::ledger::Refusal;
 use crate::minute::Statement;
 use crate::words::minute_request;
-use std::alloc::{AllocError, Global};
+use std::alloc::Global;
 
-fn usage(heap: Global) -> Result<String, AllocError>
-    ensures { IfOk result (λ t. string_bytes t ≡ usage_text) }
-{
-    String::from_str(
-        heap,
-        "usage: lotaudit minute SCALE PRICE...\n  SCALE is a whole number from 1 to 1000.\n  There are 1 to 32 PRICEs, one for each period, each a whole number from 0 to 100000, in K-ths.\n  One minute of each period is charged at its price, then handed back.\n",
-    )
-}
+// How the program is used, in full.
+const USAGE: &str =
+    "usage: lotaudit minute SCALE PRICE...\n  SCALE is a whole number from 1 to 1000.\n  There are 1 to 32 PRICEs, one for each period, each a whole number from 0 to 100000, in K-ths.\n  One minute of each period is charged at its price, then handed back.\n";
 
 fn minute(heap: Global, words: &[String]) -> Result<String, CommandError>
     ensures { Means string_bytes result (minute_answer (minute_words (texts words.now))) }
 {
     let request = minute_request(heap, words)?;
     match Statement::new(heap, request.scale, request.times.as_slice()) {
-        Ok(statement) => Ok(statement.text(heap)?),
+        Ok(statement) => Ok(statement.to_string(heap)?),
         Err(Refusal::Memory) => Err(CommandError::Memory),
-        Err(Refusal::OutOfRange) => unreachable(),
+        Err(Refusal::OutOfRange) => unreachable!(),
     }
 }
 
@@ -35,11 +29,10 @@ pub fn run(heap: Global, words: &[String]) -> Result<String, CommandError>
     ensures { Means string_bytes result (answer (texts words.now)) }
 {
     let [verb, rest @ ..] = words else {
-        return Ok(usage(heap)?);
+        return Ok(String::from_str(heap, USAGE)?);
     };
-    if verb.as_str() == "minute" {
-        minute(heap, rest)
-    } else {
-        Err(CommandError::Misused(Misuse::UnknownVerb))
+    match verb.as_str() {
+        "minute" => minute(heap, rest),
+        _ => Err(CommandError::Misused(Misuse::UnknownVerb)),
     }
 }

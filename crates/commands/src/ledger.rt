@@ -25,15 +25,14 @@ pub struct Entry {
     pub balance: ScaledMoney,
 }
 
-impl Posting {
-    // The word that a ledger has for it.
-    fn word(self) -> &'static str
-        ensures { result.now ≡ posting_text self }
-    {
-        match self {
+impl fmt::Display for Posting {
+    ghost output = { λ p. Some (posting_text p) };
+
+    fn fmt<W: fmt::Write>(&self, f: &mut fmt::Formatter<W>) -> fmt::Result {
+        f.write_str(match self {
             Posting::Charge => "charged",
             Posting::HandBack => "handed back",
-        }
+        })
     }
 }
 
@@ -47,8 +46,7 @@ impl fmt::Display for Entry {
             amount,
             balance,
         } = *self;
-        let word = posting.word();
-        write!(f, "period {period}: {word} {amount}, balance {balance}")
+        write!(f, "period {period}: {posting} {amount}, balance {balance}")
     }
 }
 

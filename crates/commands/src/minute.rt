@@ -1,14 +1,15 @@
 // The statement of an account from which every period's minutes were charged out and handed back.
-ghost use Rattle.std.specs.Prelude.{◌≡◌, ◌≤◌, length, pos, IfOk, IfErr, string_bytes};
+ghost use Rattle.std.specs.Prelude.{◌≡◌, ◌≤◌, length, pos, IfOk, IfErr, Some};
 ghost use Rattle.commands.specs.declared.ledger.Posting.TheVariants.{Charge};
 ghost use Rattle.commands.specs.declared.ledger.Refusal.TheVariants.{Memory, OutOfRange};
 ghost use Rattle.commands.specs.Ledger.{worths, all_out, Beyond};
 ghost use Rattle.commands.specs.Statements.{Closed};
-ghost use Rattle.commands.specs.Texts.{statement_text, balance_text, closing};
+ghost use Rattle.commands.specs.Texts.{statement_text, closing};
 
 use crate::ledger::{Entry, Refusal, out_and_back};
 use money::{Money, PricedTime, Scale, ScaledMoney, TimeAccount};
-use std::alloc::{AllocError, Global};
+use std::alloc::Global;
+use std::fmt;
 
 // The ledger, the balance at its end in K-ths, and that balance in whole money, rounded up once.
 #[derive(Drop)]
@@ -37,29 +38,21 @@ impl Statement {
             whole,
         })
     }
+}
 
-    pub fn text(&self, heap: Global) -> Result<String, AllocError>
-        ensures { IfOk result (λ t. string_bytes t ≡ statement_text self.now.scale.number self.now.ledger.items self.now.balance.count self.now.whole.count) }
-    {
-        let mut text = String::new(heap);
-        let ledger = self.ledger.as_slice();
-        for posted in ledger {
-            let line = format!(in heap; "{posted}\n")?;
-            text.push_str(line.as_str())?;
+impl fmt::Display for Statement {
+    ghost output = { λ s. Some (statement_text s.scale.number s.ledger.items s.balance.count s.whole.count) };
+
+    fn fmt<W: fmt::Write>(&self, f: &mut fmt::Formatter<W>) -> fmt::Result {
+        for entry in &self.ledger {
+            writeln!(f, "{entry}")?;
         }
-        let line = self.last_line(heap)?;
-        text.push_str(line.as_str())?;
-        Ok(text)
-    }
-
-    fn last_line(&self, heap: Global) -> Result<String, AllocError>
-        ensures { IfOk result (λ t. string_bytes t ≡ balance_text self.now.scale.number self.now.balance.count self.now.whole.count) }
-    {
-        let balance = self.balance;
-        let k = self.scale.k();
-        let whole = self.whole;
-        let end = ending(balance);
-        format!(in heap; "balance {balance} in K-ths at scale {k}, whole {whole}{end}")
+        let (balance, whole) = (self.balance, self.whole);
+        let (k, end) = (self.scale.k(), ending(balance));
+        write!(
+            f,
+            "balance {balance} in K-ths at scale {k}, whole {whole}{end}"
+        )
     }
 }
 

@@ -25,7 +25,7 @@ impl<const LEAST: u32, const MOST: u32> Within<LEAST, MOST> {
     pub fn new(number: u32) -> Option<Self>
         ensures { option_map (λ w. w.number) result ≡ within LEAST MOST number }
     {
-        if LEAST <= number && number <= MOST {
+        if (LEAST..=MOST).contains(&number) {
             Some(Within { number })
         } else {
             None

@@ -1,8 +1,12 @@
--- The orders of entries, and the better of two entries under an order.
-use Rattle.std.specs.Prelude.{◌≡◌, Bool, false, cond, ◌&&◌, ◌||◌, Some, None, Option, ◌==◌, int_lt, nat_lt}
-use Rattle.best.specs.declared.entries.Cost.{Cost}
-use Rattle.best.specs.declared.entries.Bound.{Bound}
+-- The better of two entries under an order, and the order of candidates.
+use Rattle.std.specs.Prelude.{◌≡◌, Bool, false, cond, ◌&&◌, ◌||◌, Some, None, Option, ◌==◌, nat_lt}
+use Rattle.std.specs.Ordering.{is_lt}
+use Rattle.std.specs.declared.cmp.Ordering.{Ordering}
 use Rattle.best.specs.declared.entries.Candidate.{Candidate}
+
+-- x stands strictly before y in an order
+abbrev pub before : {E : Type 0} → (E → E → Ordering) → E → E → Bool
+before order x y = is_lt (order x y)
 
 -- the better of the older entry, if there is one, and e; at a tie the older one
 abbrev pub better : {E : Type 0} → (E → E → Bool) → Option E → E → E
@@ -13,14 +17,6 @@ better first (Some old) e = cond (first e old) e old
 abbrev pub NoneBefore : {E : Type 0} → (E → E → Bool) → Option E → E → Type 0
 NoneBefore first None e = first e e ≡ false
 NoneBefore first (Some old) e = (first old (better first (Some old) e) ≡ false) × (first e (better first (Some old) e) ≡ false)
-
--- the lower cost first
-abbrev pub cost_first : Cost → Cost → Bool
-cost_first x y = nat_lt x.0 y.0
-
--- the higher bound first
-abbrev pub bound_first : Bound → Bound → Bool
-bound_first x y = int_lt y.0 x.0
 
 -- the lower cost first, and of equal costs the earlier period
 abbrev pub candidate_first : Candidate → Candidate → Bool

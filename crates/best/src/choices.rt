@@ -3,18 +3,11 @@ ghost use Rattle.std.specs.Prelude.{◌≡◌, min, Some};
 ghost use Rattle.best.specs.Orders.{better, candidate_first};
 
 use crate::entries::Candidate;
-use crate::keeping::Best;
 
 // The cheaper one; at equal costs the one that is made earlier.
 pub fn cheaper(a: Candidate, b: Candidate) -> Candidate
     ensures is { result ≡ better candidate_first (Some a) b }
     ensures cost { result.cost ≡ min a.cost b.cost }
 {
-    let mut best = Best::new();
-    best.offer(a);
-    best.offer(b);
-    match best.best() {
-        Some(c) => c,
-        None => unreachable(),
-    }
+    a.min(b)
 }

@@ -1,15 +1,13 @@
 // The keeper of the best entry offered to it.
 ghost use Rattle.std.specs.Prelude.{◌≡◌, Some, None};
-ghost use Rattle.best.specs.Orders.{better, NoneBefore};
-
-use crate::ranks::Ranked;
+ghost use Rattle.best.specs.Orders.{before, better, NoneBefore};
 
 #[derive(Drop)]
 pub struct Best<E> {
     kept: Option<E>,
 }
 
-impl<E: Ranked + Copy> Best<E> {
+impl<E: Ord + Copy> Best<E> {
     // It keeps none yet.
     pub fn new() -> Best<E>
         ensures { result.kept ≡ None }
@@ -19,13 +17,10 @@ impl<E: Ranked + Copy> Best<E> {
 
     // Keeps the better of the kept entry and this one; at a tie the older one stays.
     pub fn offer(&mut self, e: E)
-        ensures best { NoneBefore E.Ranked.first self.old.kept e }
-        ensures keeps { self.new.kept ≡ Some (better E.Ranked.first self.old.kept e) }
+        ensures best { NoneBefore (before E.Ord.cmp) self.old.kept e }
+        ensures keeps { self.new.kept ≡ Some (better (before E.Ord.cmp) self.old.kept e) }
     {
-        match &self.kept {
-            Some(old) if !e.before(old) => {}
-            _ => self.kept = Some(e),
-        }
+        self.kept = Some(self.kept.map_or(e, |old| old.min(e)));
     }
 
     pub fn best(&self) -> Option<E>

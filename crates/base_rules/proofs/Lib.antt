@@ -1,4 +1,6 @@
 pub mod Steps
+pub mod Writes
 pub mod Grids
+pub mod Zipped
 pub mod Weighs
 pub mod Meant

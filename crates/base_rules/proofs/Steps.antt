@@ -3,8 +3,12 @@ use Rattle.std.proofs.Common.{◌≡◌, ℕ, suc, ◌+◌, ◌-◌, ◌*◌, �
 use Rattle.std.proofs.lemmas.List.{take-take}
 use Rattle.std.proofs.lemmas.List.Sums.{sum_by_more, sum_by-take-le, sum_by-cons}
 use Rattle.item.specs.declared.records.Row.{Row}
+use Rattle.base_rules.specs.declared.problem.Problem.{Problem}
 use Rattle.base_rules.specs.Programme.{blank, row_at, due, holding, aged}
-use Rattle.base_rules.specs.Told.{Told}
+use Rattle.base_rules.specs.Told.{Told, told}
+
+pub told_in : (p : Problem) → Told p.rows.now
+told_in p = told p.rows.now p.few p.within
 
 sum_up : (f : Row → ℕ) (rs : List Row) (a t : ℕ) → a ≤ t → sum_by f (take a rs) ≤ sum_by f (take t rs)
 sum_up f rs a t h = subst (λ l. sum_by f l ≤ sum_by f (take t rs)) (take-take a t rs h) (sum_by-take-le f (take t rs) a)
@@ -13,7 +17,7 @@ sum_cap : (f : Row → ℕ) (m : ℕ) (rs : List Row) → ((k : ℕ) → k < len
 sum_cap f m [] h = omega arith
 sum_cap f m (r ∷ rs) h = let c = sum_by-cons f r rs in let ih = sum_cap f m rs (λ k l. h (suc k) (omega arith)) in let i = h 0 (omega arith) in omega arith
 
-pub due_more : (rs : List Row) (a t : ℕ) → a < length rs → a < t → due rs (a + 1) t + (row_at rs a).demand ≡ due rs a t
+due_more : (rs : List Row) (a t : ℕ) → a < length rs → a < t → due rs (a + 1) t + (row_at rs a).demand ≡ due rs a t
 due_more rs a t i h =
     let f : Row → ℕ = λ r. r.demand in
     omega (arith, sum_by_more f rs a blank i, sum_up f rs (a + 1) t (omega arith))
@@ -34,38 +38,46 @@ aged_first rs t i =
     let f : Row → ℕ = λ r. r.hold in
     omega (arith, sum_by_more f rs t blank i)
 
-pub due_cap : (rs : List Row) (a t : ℕ) → Told rs → due rs a t ≤ 3200000
-due_cap rs a t h =
+pub due_cap : (p : Problem) (a t : ℕ) → due p.rows.now a t ≤ 3200000
+due_cap p a t =
+    let rs = p.rows.now in
     let f : Row → ℕ = λ r. r.demand in
-    omega (arith, sum_by-take-le f rs t, sum_cap f 100000 rs (λ k l. (h.1 k l).demand), mul-le-mul_right 100000 h.0)
+    omega (arith, sum_by-take-le f rs t, sum_cap f 100000 rs (λ k lt. ((told_in p).1 k lt).demand), mul-le-mul_right 100000 p.few)
+
+holding_cap : (p : Problem) (s t : ℕ) → holding p.rows.now s t ≤ 3200000000
+holding_cap p s t =
+    let rs = p.rows.now in
+    let f : Row → ℕ = λ r. r.hold in
+    omega (arith, sum_by-take-le f rs t, sum_cap f 100000000 rs (λ k lt. ((told_in p).1 k lt).hold), mul-le-mul_right 100000000 p.few)
+
+-- n is the sum of the demands of periods a up to t
+pub record Due (p : Problem) (a t n : ℕ) : Type 0 where
+  pub is : n ≡ due p.rows.now a t
+
+-- n is the sum of the hold prices of periods s up to t
+pub record Holding (p : Problem) (s t n : ℕ) : Type 0 where
+  pub is : n ≡ holding p.rows.now s t
 
 -- one row further back
-pub due_back : (rs : List Row) (a t n : ℕ) → Told rs → 0 < a → a ≤ t + 1 → t < length rs → n ≡ due rs a (t + 1) → (n + (row_at rs (a - 1)).demand ≡ due rs (a - 1) (t + 1)) × (n + (row_at rs (a - 1)).demand ≤ 3200000)
-due_back rs a t n told some le row e =
-    let back : a - 1 + 1 ≡ a = omega arith in
-    let more = rw back at (due_more rs (a - 1) (t + 1) (omega arith) (omega arith)) in
-    (omega arith, omega (arith, due_cap rs (a - 1) (t + 1) told))
+pub due_back : {p : Problem} {a t n : ℕ} → Due p (a + 1) (t + 1) n → a ≤ t → t < length p.rows.now → (n + (row_at p.rows.now a).demand ≡ due p.rows.now a (t + 1)) × (n + (row_at p.rows.now a).demand ≤ 3200000)
+due_back {p} {a} {t} d le row =
+    let e = d.is in
+    let more = due_more p.rows.now a (t + 1) (omega arith) (omega arith) in
+    (omega arith, omega (arith, due_cap p a (t + 1)))
 
-pub lot_cap : (rs : List Row) (t n : ℕ) → Told rs → t < length rs → n ≤ 3200000 → (row_at rs t).unit * n ≤ 640000000000000
-lot_cap rs t n told row le = omega (arith, mul-le-mul (told.1 t row).unit le)
-
--- the same of the hold prices
-pub holding_cap : (rs : List Row) (a t : ℕ) → Told rs → holding rs a t ≤ 3200000000
-holding_cap rs a t h =
+pub holding_back : {p : Problem} {s t n : ℕ} → Holding p s t n → 0 < s → s ≤ t → t < length p.rows.now → Holding p (s - 1) t (n + (row_at p.rows.now (s - 1)).hold) × (n + (row_at p.rows.now (s - 1)).hold ≤ 3200000000)
+holding_back {p} {s} {t} {n} h some le row =
+    let rs = p.rows.now in
     let f : Row → ℕ = λ r. r.hold in
-    omega (arith, sum_by-take-le f rs t, sum_cap f 100000000 rs (λ k l. (h.1 k l).hold), mul-le-mul_right 100000000 h.0)
-
-pub holding_back : (rs : List Row) (s t n : ℕ) → Told rs → 0 < s → s ≤ t → t < length rs → n ≡ holding rs s t → (n + (row_at rs (s - 1)).hold ≡ holding rs (s - 1) t) × (n + (row_at rs (s - 1)).hold ≤ 3200000000)
-holding_back rs s t n told some le row e =
-    let f : Row → ℕ = λ r. r.hold in
+    let e = h.is in
     let back : s - 1 + 1 ≡ s = omega arith in
     let more = rw back at (sum_by_more f rs (s - 1) blank (omega arith)) in
     let up = sum_up f rs s t le in
     let i : n + (row_at rs (s - 1)).hold ≡ holding rs (s - 1) t = omega arith in
-    (i, omega (arith, holding_cap rs (s - 1) t told))
+    (record { is = i }, omega (arith, holding_cap p (s - 1) t))
 
-pub keep_cap : (rs : List Row) (s t p : ℕ) → Told rs → s < length rs → t < length rs → p ≤ 3200000000 → ((row_at rs s).unit + p) * (row_at rs t).demand ≤ 340000000000000
-keep_cap rs s t p told i j le =
-    let u = (told.1 s i).unit in
-    let q : (row_at rs s).unit + p ≤ 3400000000 = omega arith in
-    omega (arith, mul-le-mul q (told.1 t j).demand)
+pub keep_cap : (p : Problem) (s t n : ℕ) → s < length p.rows.now → t < length p.rows.now → n ≤ 3200000000 → ((row_at p.rows.now s).unit + n) * (row_at p.rows.now t).demand ≤ 340000000000000
+keep_cap p s t n i j le =
+    let u = ((told_in p).1 s i).unit in
+    let q : (row_at p.rows.now s).unit + n ≤ 3400000000 = omega arith in
+    omega (arith, mul-le-mul q ((told_in p).1 t j).demand)

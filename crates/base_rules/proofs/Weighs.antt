@@ -1,17 +1,20 @@
 -- The steps of weighing a plan.
-use Rattle.std.proofs.Common.{◌≡◌, ℕ, zero, suc, ◌+◌, ◌-◌, ◌*◌, ◌<◌, ◌≤◌, Bool, true, false, cond, not, ◌&&◌, eqb, ltb, leb, List, [], ◌∷◌, length, drop, refl, ap, ◌∙◌, ap₂, mul-le-mul, arith}
+use Rattle.std.proofs.Common.{◌≡◌, ℕ, zero, suc, ◌+◌, ◌<◌, ◌≤◌, true, false, not, ◌&&◌, eqb, ltb, leb, List, [], ◌∷◌, Ok, Err, length, drop, refl, sym, ap, ◌∙◌, ap₂, arith}
 use Rattle.std.proofs.lemmas.List.{drop_all, drop_more}
 use Rattle.std.proofs.lemmas.Bool.{and_parts, leb-true, eqb-true}
 use Rattle.item.specs.declared.records.Lot.{Lot}
 use Rattle.item.specs.declared.records.Row.{Row}
-use Rattle.item.specs.declared.records.Verdict.{Verdict}
-use Rattle.item.specs.declared.records.Verdict.TheVariants.{Cost, Fault}
-use Rattle.item.specs.Least.{lot}
+use Rattle.item.specs.Verdicts.{Verdict}
+use Rattle.item.specs.Least
 use Rattle.item.specs.Limits.{most_amount, amounts_up_to, row_within, fits}
+use Rattle.base_rules.specs.declared.causes.Cause.TheVariants.{NoSetup}
+use Rattle.base_rules.specs.declared.kinds.Kind.{Kind}
+use Rattle.base_rules.specs.declared.problem.Problem.{Problem}
 use Rattle.base_rules.specs.Programme.{blank, row_at}
 use Rattle.base_rules.specs.Stocks.{lot_at}
-use Rattle.base_rules.specs.Verdicts.{period_cost, may_owe, short_cause, plus, verdict_from}
-use Rattle.base_rules.specs.Told.{limits}
+use Rattle.base_rules.specs.Verdicts.{period_cost, may_owe, shortage, fault_of, plus, verdict_from}
+use Rattle.base_rules.specs.Told.{limits, within_at}
+use Rattle.base_rules.proofs.Zipped.{At}
 
 pub plan_long : (rows : List Row) (plan : List Lot) → fits rows plan ≡ true → length plan ≡ length rows
 plan_long rows plan f = eqb-true _ _ (and_parts (eqb (length plan) (length rows)) (amounts_up_to most_amount plan) f).0
@@ -21,45 +24,54 @@ small_at m [] t h lt = absurd (omega arith)
 small_at m (l ∷ ls) zero h lt = leb-true l.amount m (and_parts (leb l.amount m) (amounts_up_to m ls) h).0
 small_at m (l ∷ ls) (suc t) h lt = small_at m ls t (and_parts (leb l.amount m) (amounts_up_to m ls) h).1 (omega arith)
 
-pub amount_low : (rows : List Row) (plan : List Lot) (t : ℕ) → fits rows plan ≡ true → t < length rows → (lot_at plan t).amount ≤ 3200000
+amount_low : (rows : List Row) (plan : List Lot) (t : ℕ) → fits rows plan ≡ true → t < length rows → (lot_at plan t).amount ≤ 3200000
 amount_low rows plan t f lt =
     let long = plan_long rows plan f in
     small_at most_amount plan t (and_parts (eqb (length plan) (length rows)) (amounts_up_to most_amount plan) f).1 (omega arith)
 
-pub period_low : (r : Row) (l : Lot) (x d : ℕ) → row_within r ≡ true → l.amount ≤ 3200000 → x ≤ 102400000 → d ≤ 3200000 → period_cost r l x d ≤ 12000000000000000
-period_low r l x d w a b c =
-    let m = limits r w in
-    let u = mul-le-mul m.unit a in
-    let over : x - d ≤ 102400000 = omega arith in
-    let under : d - x ≤ 3200000 = omega arith in
-    let h = mul-le-mul m.hold over in
-    let q = mul-le-mul m.short under in
-    go l.setup (omega (arith, m.setup))
-  where
-    go : (b : Bool) → r.setup + (r.unit * l.amount + r.hold * (x - d) + r.short * (d - x)) ≤ 12000000000000000 → cond b r.setup 0 + r.unit * l.amount + r.hold * (x - d) + r.short * (d - x) ≤ 12000000000000000
-    go true e = omega arith
-    go false e = omega arith
-
 plus_plus : (a b : ℕ) (v : Verdict) → plus a (plus b v) ≡ plus (a + b) v
-plus_plus a b (Cost n) = ap Cost (omega arith)
-plus_plus a b (Fault i j k) = refl
+plus_plus a b (Ok n) = ap Ok (omega arith)
+plus_plus a b (Err f) = refl
 
-module _ (backlog : Bool) (rows : List Row) (plan : List Lot) (t x d cost : ℕ) (row : t < length rows) (in_plan : t < length plan) where
-  -- the first row of the rest
-  here : plus cost (verdict_from backlog t x d (drop t rows) (drop t plan)) ≡ plus cost (verdict_from backlog t x d (row_at rows t ∷ drop (t + 1) rows) (lot_at plan t ∷ drop (t + 1) plan))
-  here = ap₂ (λ a b. plus cost (verdict_from backlog t x d a b)) (drop_more rows t blank row) (drop_more plan t (lot 0 false) in_plan)
+module _ (kind : Kind) (x d cost : ℕ) {rows : List Row} {plan : List Lot} {t period : ℕ} {row : Row} {lot : Lot} (at : At rows plan t period row lot) where
+  -- the verdict on the rest of the rows
+  abbrev rest : Verdict
+  rest = plus cost (verdict_from kind t x d (drop t rows) (drop t plan))
 
-  pub no_setup_lem : (not (lot_at plan t).setup && ltb 0 (lot_at plan t).amount) ≡ true → plus cost (verdict_from backlog t x d (drop t rows) (drop t plan)) ≡ Fault 1 t 0
-  no_setup_lem e = here ∙ rw e
+  here : rest ≡ plus cost (verdict_from kind t x d (row ∷ drop (t + 1) rows) (lot ∷ drop (t + 1) plan))
+  here =
+      let r : drop t rows ≡ row ∷ drop (t + 1) rows = drop_more rows t blank at.in_rows ∙ ap (λ a. a ∷ drop (t + 1) rows) (sym at.row_is) in
+      let l : drop t plan ≡ lot ∷ drop (t + 1) plan = drop_more plan t (Least.lot 0 false) at.in_plan ∙ ap (λ a. a ∷ drop (t + 1) plan) (sym at.lot_is) in
+      ap₂ (λ a b. plus cost (verdict_from kind t x d a b)) r l
 
-  module _ (made : (not (lot_at plan t).setup && ltb 0 (lot_at plan t).amount) ≡ false) where
-    pub short : (not (may_owe backlog (drop (t + 1) rows)) && ltb (x + (lot_at plan t).amount) (d + (row_at rows t).demand)) ≡ true → plus cost (verdict_from backlog t x d (drop t rows) (drop t plan)) ≡ Fault (short_cause backlog) t 0
-    short e = here ∙ rw (made, e)
+  pub no_setup_lem : (not lot.setup && ltb 0 lot.amount) ≡ true → Err (fault_of NoSetup period) ≡ rest
+  no_setup_lem e = sym (here ∙ rw (e, at.is))
 
-    pub goes_on : (not (may_owe backlog (drop (t + 1) rows)) && ltb (x + (lot_at plan t).amount) (d + (row_at rows t).demand)) ≡ false →
-        plus cost (verdict_from backlog t x d (drop t rows) (drop t plan)) ≡
-        plus (cost + period_cost (row_at rows t) (lot_at plan t) (x + (lot_at plan t).amount) (d + (row_at rows t).demand)) (verdict_from backlog (t + 1) (x + (lot_at plan t).amount) (d + (row_at rows t).demand) (drop (t + 1) rows) (drop (t + 1) plan))
+  module _ (made : (not lot.setup && ltb 0 lot.amount) ≡ false) where
+    pub short : (not (may_owe kind (drop (t + 1) rows)) && ltb (x + lot.amount) (d + row.demand)) ≡ true → Err (fault_of (shortage kind) period) ≡ rest
+    short e = sym (here ∙ rw (made, e, at.is))
+
+    pub goes_on : (not (may_owe kind (drop (t + 1) rows)) && ltb (x + lot.amount) (d + row.demand)) ≡ false →
+        rest ≡ plus (cost + period_cost row lot (x + lot.amount) (d + row.demand)) (verdict_from kind (t + 1) (x + lot.amount) (d + row.demand) (drop (t + 1) rows) (drop (t + 1) plan))
     goes_on e = here ∙ rw (made, e) (plus_plus cost _ _)
 
-pub ends : (backlog : Bool) (rows : List Row) (plan : List Lot) (t x d cost : ℕ) → length rows ≤ t → plus cost (verdict_from backlog t x d (drop t rows) (drop t plan)) ≡ Cost cost
-ends backlog rows plan t x d cost le = ap (λ a. plus cost (verdict_from backlog t x d a (drop t plan))) (drop_all t rows le) ∙ ap Cost (omega arith)
+pub ends : (kind : Kind) (rows : List Row) (plan : List Lot) (t x d cost : ℕ) → length rows ≤ t → plus cost (verdict_from kind t x d (drop t rows) (drop t plan)) ≡ Ok cost
+ends kind rows plan t x d cost le = ap (λ a. plus cost (verdict_from kind t x d a (drop t plan))) (drop_all t rows le) ∙ ap Ok (omega arith)
+
+-- the bounds of a turn, where the rows were told and the plan fits
+pub record Low (t : ℕ) (row : Row) (lot : Lot) : Type 0 where
+  pub few : t < 32
+  pub within : row_within row ≡ true
+  pub demand : row.demand ≤ 100000
+  pub amount : lot.amount ≤ 3200000
+
+pub low_at : (p : Problem) {plan : List Lot} {t period : ℕ} {row : Row} {lot : Lot} → fits p.rows.now plan ≡ true → At p.rows.now plan t period row lot → Low t row lot
+low_at p {plan} {t} f at =
+    let within = within_at p.rows.now t p.within at.in_rows in
+    let few = p.few in
+    record {
+      few = omega (arith, at.in_rows);
+      within = rw at.row_is within;
+      demand = rw at.row_is (limits (row_at p.rows.now t) within).demand;
+      amount = rw at.lot_is (amount_low p.rows.now plan t f at.in_rows);
+    }

@@ -1,8 +1,9 @@
 -- The programme's values stay small.
-use Rattle.std.specs.Prelude.{ℕ, suc, ◌+◌, ◌*◌, ◌<◌, ◌≤◌, Bool, List, [], ◌∷◌, length, drop}
+use Rattle.std.specs.Prelude.{ℕ, suc, ◌+◌, ◌*◌, ◌<◌, ◌≤◌, List, [], ◌∷◌, length, drop}
 use Rattle.std.proofs.Common.{sym, subst, mul-le-mul, arith}
 use Rattle.std.proofs.lemmas.List.{get_or-drop, length-drop}
 use Rattle.item.specs.declared.records.Row.{Row}
+use Rattle.base_rules.specs.declared.kinds.Kind.{Kind}
 use Rattle.base_rules.specs.Verdicts.{may_owe}
 use Rattle.base_rules.specs.Programme.{hand, owed, blank, row_at}
 use Rattle.base_rules.specs.Bounds.{block_make}
@@ -11,24 +12,24 @@ use Rattle.base_rules.specs.Told.{Limits, Told}
 abbrev Every : List Row → Type 0
 Every rs = (k : ℕ) → k < length rs → Limits (row_at rs k)
 
-make_cap : (backlog : Bool) (n v : ℕ) (r : Row) (rs : List Row) → Limits r → n ≤ 3200000 → hand backlog (r.unit + r.hold) rs ≤ v → owed backlog n (r ∷ rs) ≤ 20000000000 + 200000000 * (n + 100000) + v
-make_cap backlog n v r rs l le h =
+make_cap : (kind : Kind) (n v : ℕ) (r : Row) (rs : List Row) → Limits r → n ≤ 3200000 → hand kind (r.unit + r.hold) rs ≤ v → owed kind n (r ∷ rs) ≤ 20000000000 + 200000000 * (n + 100000) + v
+make_cap kind n v r rs l le h =
     let d : n + r.demand ≤ n + 100000 = omega (arith, l.demand) in
     let p = mul-le-mul l.unit d in
-    omega (arith, l.setup, block_make (may_owe backlog rs) r.short (n + r.demand) (r.setup + r.unit * (n + r.demand) + hand backlog (r.unit + r.hold) rs) (owed backlog (n + r.demand) rs))
+    omega (arith, l.setup, block_make (may_owe kind rs) r.short (n + r.demand) (r.setup + r.unit * (n + r.demand) + hand kind (r.unit + r.hold) rs) (owed kind (n + r.demand) rs))
 
-pub hand_cap : (backlog : Bool) (p : ℕ) (rs : List Row) → Every rs → hand backlog p rs ≤ length rs * 20020000000000
-hand_cap backlog p [] e = omega arith
-hand_cap backlog p (r ∷ rs) e =
-    let ih = hand_cap backlog (r.unit + r.hold) rs (λ k l. e (suc k) (omega arith)) in
-    let m = make_cap backlog 0 _ r rs (e 0 (omega arith)) (omega arith) ih in
+pub hand_cap : (kind : Kind) (p : ℕ) (rs : List Row) → Every rs → hand kind p rs ≤ length rs * 20020000000000
+hand_cap kind p [] e = omega arith
+hand_cap kind p (r ∷ rs) e =
+    let ih = hand_cap kind (r.unit + r.hold) rs (λ k l. e (suc k) (omega arith)) in
+    let m = make_cap kind 0 _ r rs (e 0 (omega arith)) (omega arith) ih in
     omega arith
 
-pub owed_cap : (backlog : Bool) (n : ℕ) (rs : List Row) → Every rs → n ≤ 3200000 → owed backlog n rs ≤ 660020000000000 + length rs * 20020000000000
-owed_cap backlog n [] e le = omega arith
-owed_cap backlog n (r ∷ rs) e le =
-    let ih = hand_cap backlog (r.unit + r.hold) rs (λ k l. e (suc k) (omega arith)) in
-    let m = make_cap backlog n _ r rs (e 0 (omega arith)) le ih in
+pub owed_cap : (kind : Kind) (n : ℕ) (rs : List Row) → Every rs → n ≤ 3200000 → owed kind n rs ≤ 660020000000000 + length rs * 20020000000000
+owed_cap kind n [] e le = omega arith
+owed_cap kind n (r ∷ rs) e le =
+    let ih = hand_cap kind (r.unit + r.hold) rs (λ k l. e (suc k) (omega arith)) in
+    let m = make_cap kind n _ r rs (e 0 (omega arith)) le ih in
     omega arith
 
 pub every_drop : (rs : List Row) (t : ℕ) → Told rs → Every (drop t rs)

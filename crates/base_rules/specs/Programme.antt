@@ -2,6 +2,7 @@
 use Rattle.std.specs.Prelude.{ℕ, zero, suc, ◌+◌, ◌-◌, ◌*◌, min, Bool, true, false, List, [], ◌∷◌, get_or, take, sum_by, slice_index_or}
 use Rattle.best.specs.declared.entries.Candidate.{Candidate}
 use Rattle.item.specs.declared.records.Row.{Row}
+use Rattle.base_rules.specs.declared.kinds.Kind.{Kind}
 use Rattle.base_rules.specs.Verdicts.{may_owe}
 
 -- n units are owed at the end of a row: they are made in it, or they wait at the short price if they may, or there are none
@@ -10,22 +11,22 @@ block true short n make wait = min make (short * n + wait)
 block false short zero make wait = min make wait
 block false short (suc n) make wait = make
 
--- a row at which n units are owed: they and its demand are made now, or wait; later and wait are what the rows after it then come to
+-- a row at whose end n units are owed, its demand among them: they are made now, or wait; later and wait are what the rows after it then come to
 abbrev pub lot_or_wait : Bool → Row → ℕ → ℕ → ℕ → ℕ
-lot_or_wait may r n later wait = block may r.short (n + r.demand) (r.setup + r.unit * (n + r.demand) + later) wait
+lot_or_wait may r n later wait = block may r.short n (r.setup + r.unit * n + later) wait
 
 abbrev mutual
   -- the least for these rows when a unit is at hand at the price p
-  pub hand : Bool → ℕ → List Row → ℕ
-  hand backlog p [] = 0
-  hand backlog p (r ∷ rs) =
-      min (p * r.demand + hand backlog (p + r.hold) rs)
-      (lot_or_wait (may_owe backlog rs) r 0 (hand backlog (r.unit + r.hold) rs) (owed backlog (0 + r.demand) rs))
+  pub hand : Kind → ℕ → List Row → ℕ
+  hand kind p [] = 0
+  hand kind p (r ∷ rs) =
+      min (p * r.demand + hand kind (p + r.hold) rs)
+      (lot_or_wait (may_owe kind rs) r (0 + r.demand) (hand kind (r.unit + r.hold) rs) (owed kind (0 + r.demand) rs))
 
   -- the least for these rows when n units are owed and none is at hand
-  pub owed : Bool → ℕ → List Row → ℕ
-  owed backlog n [] = 0
-  owed backlog n (r ∷ rs) = lot_or_wait (may_owe backlog rs) r n (hand backlog (r.unit + r.hold) rs) (owed backlog (n + r.demand) rs)
+  pub owed : Kind → ℕ → List Row → ℕ
+  owed kind n [] = 0
+  owed kind n (r ∷ rs) = lot_or_wait (may_owe kind rs) r (n + r.demand) (hand kind (r.unit + r.hold) rs) (owed kind (n + r.demand) rs)
 
 -- a row of zeros, which stands where there is none
 abbrev pub blank : Row

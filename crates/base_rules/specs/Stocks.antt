@@ -1,11 +1,12 @@
 -- What a verdict of a base rule says of a plan, period by period.
-use Rattle.std.specs.Prelude.{◌≡◌, ℕ, zero, suc, ◌+◌, ◌<◌, Bool, true, false, ◌⊎◌, List, length, take, sum_by, slice_index_or}
+use Rattle.std.specs.Prelude.{◌≡◌, ℕ, zero, suc, ◌+◌, ◌<◌, true, false, ◌⊎◌, List, length, Ok, Err, take, sum_by, slice_index_or}
 use Rattle.item.specs.declared.records.Lot.{Lot}
 use Rattle.item.specs.declared.records.Row.{Row}
-use Rattle.item.specs.declared.records.Verdict.{Verdict}
-use Rattle.item.specs.declared.records.Verdict.TheVariants.{Cost, Fault}
 use Rattle.item.specs.Least.{lot}
 use Rattle.item.specs.Limits.{fits}
+use Rattle.item.specs.Verdicts.{Verdict}
+use Rattle.base_rules.specs.declared.kinds.Kind.{Kind}
+use Rattle.base_rules.specs.declared.kinds.Kind.TheVariants.{Backlog}
 use Rattle.base_rules.specs.Programme.{row_at}
 use Rattle.base_rules.specs.Verdicts.{period_cost, setup_cause, short_cause, verdict}
 
@@ -31,29 +32,29 @@ abbrev pub LacksSetup : List Lot → ℕ → Type 0
 LacksSetup plan t = ((lot_at plan t).setup ≡ false) × (0 < (lot_at plan t).amount)
 
 -- stock is below zero after period t, where it may not be: with backlog after the last period, without it after any
-abbrev pub LacksStock : Bool → List Row → List Lot → ℕ → Type 0
-LacksStock backlog rows plan t = (made_by plan (t + 1) < asked_by rows (t + 1)) × (backlog ≡ true → t + 1 ≡ length rows)
+abbrev pub LacksStock : Kind → List Row → List Lot → ℕ → Type 0
+LacksStock kind rows plan t = (made_by plan (t + 1) < asked_by rows (t + 1)) × (kind ≡ Backlog → t + 1 ≡ length rows)
 
 -- period t has no fault
-abbrev pub Clean : Bool → List Row → List Lot → ℕ → Type 0
-Clean backlog rows plan t = (LacksSetup plan t → ⊥) × (LacksStock backlog rows plan t → ⊥)
+abbrev pub Clean : Kind → List Row → List Lot → ℕ → Type 0
+Clean kind rows plan t = (LacksSetup plan t → ⊥) × (LacksStock kind rows plan t → ⊥)
 
 -- none of the first t periods has one
-abbrev pub CleanTo : Bool → List Row → List Lot → ℕ → Type 0
-CleanTo backlog rows plan t = (s : ℕ) → s < t → Clean backlog rows plan s
+abbrev pub CleanTo : Kind → List Row → List Lot → ℕ → Type 0
+CleanTo kind rows plan t = (s : ℕ) → s < t → Clean kind rows plan s
 
 -- period t has a fault, and this is its cause: a setup that is lacking comes before stock that is
-abbrev pub FaultAt : Bool → List Row → List Lot → ℕ → ℕ → Type 0
-FaultAt backlog rows plan t cause =
+abbrev pub FaultAt : Kind → List Row → List Lot → ℕ → ℕ → Type 0
+FaultAt kind rows plan t cause =
     (LacksSetup plan t × (cause ≡ setup_cause)) ⊎
-    ((LacksSetup plan t → ⊥) × LacksStock backlog rows plan t × (cause ≡ short_cause backlog))
+    ((LacksSetup plan t → ⊥) × LacksStock kind rows plan t × (cause ≡ short_cause kind))
 
 -- what a verdict says: no period has a fault and the cost is that of all periods, or the period named is the first that has one
-abbrev pub VerdictMeans : Bool → List Row → List Lot → Verdict → Type 0
-VerdictMeans backlog rows plan (Cost n) = CleanTo backlog rows plan (length rows) × (n ≡ cost_by rows plan (length rows))
-VerdictMeans backlog rows plan (Fault cause period depth) =
-    (period < length rows) × CleanTo backlog rows plan period × FaultAt backlog rows plan period cause × (depth ≡ 0)
+abbrev pub VerdictMeans : Kind → List Row → List Lot → Verdict → Type 0
+VerdictMeans kind rows plan (Ok n) = CleanTo kind rows plan (length rows) × (n ≡ cost_by rows plan (length rows))
+VerdictMeans kind rows plan (Err f) =
+    (f.period < length rows) × CleanTo kind rows plan f.period × FaultAt kind rows plan f.period f.cause × (f.depth ≡ 0)
 
 -- the verdict on each plan that fits says what it means
-abbrev pub VerdictsMean : Bool → Type 0
-VerdictsMean backlog = (rows : List Row) (plan : List Lot) → fits rows plan ≡ true → VerdictMeans backlog rows plan (verdict backlog rows plan)
+abbrev pub VerdictsMean : Kind → Type 0
+VerdictsMean kind = (rows : List Row) (plan : List Lot) → fits rows plan ≡ true → VerdictMeans kind rows plan (verdict kind rows plan)

@@ -1,5 +1,5 @@
 // The base rules behind the interface of item rules.
-ghost use Rattle.std.specs.Prelude.{◌≡◌, true, false};
+ghost use Rattle.std.specs.Prelude.{◌≡◌, true};
 ghost use Rattle.item.specs.Meanings.{unopened};
 ghost use Rattle.item.specs.Tables.{held_in};
 ghost use Rattle.base_rules.specs.Stocks.{VerdictsMean};
@@ -7,54 +7,39 @@ ghost use Rattle.base_rules.specs.Verdicts.{base_rule, holds_base_header};
 ghost use Rattle.base_rules.specs.Laws.{laws};
 ghost use Rattle.base_rules.specs.Exact;
 
-use crate::programme::least_cost;
-use crate::weighing::weighed;
+use crate::kinds::Kind;
+use crate::problem::Problem;
 use item::{Header, ItemRule, Lot, Refusal, Row, RowTable, Verdict};
 
-// A lot-sizing rule for one item that starts without stock, with backlog or without.
+// A lot-sizing rule for one item that starts without stock.
 #[derive(Drop)]
 pub struct BaseRule {
-    backlog: bool,
+    kind: Kind,
     table: RowTable,
-    ghost known: { holds_base_header table.opened ≡ true },
+    ghost known: { holds_base_header (held_in table) ≡ true },
 }
 
 impl BaseRule {
-    // Stock is never below zero.
-    pub fn plain() -> BaseRule
-        ensures rule { result.backlog ≡ false }
+    pub fn new(kind: Kind) -> BaseRule
+        ensures rule { result.kind ≡ kind }
         ensures holds { held_in result.table ≡ unopened }
-        ensures verdicts { VerdictsMean result.backlog }
+        ensures verdicts { VerdictsMean result.kind }
     {
         BaseRule {
-            backlog: false,
-            table: RowTable::new(),
-        }
-    }
-
-    // Stock is not below zero after the last row.
-    pub fn backlog() -> BaseRule
-        ensures rule { result.backlog ≡ true }
-        ensures holds { held_in result.table ≡ unopened }
-        ensures verdicts { VerdictsMean result.backlog }
-    {
-        BaseRule {
-            backlog: true,
+            kind,
             table: RowTable::new(),
         }
     }
 }
 
 impl ItemRule for BaseRule {
-    ghost meaning = { λ s. base_rule s.backlog };
+    ghost meaning = { λ s. base_rule s.kind };
 
     ghost held = { λ s. held_in s.table };
 
-    ghost sound = { λ _. Unit {0} };
+    ghost proper = { λ x. Exact.proper x.kind x.table.opened x.known };
 
-    ghost proper = { λ x _. Exact.proper x.backlog x.table.opened x.table.count x.table.rows x.known x.table.long x.table.few x.table.within };
-
-    ghost lawful = { λ x. laws x.backlog };
+    ghost lawful = { λ x. laws x.kind };
 
     fn open(&mut self, header: Header) -> Result<(), Refusal> {
         if header.rule != 0 || header.opening != 0 || header.forced != 0 {
@@ -69,13 +54,12 @@ impl ItemRule for BaseRule {
     }
 
     fn weigh(&self, plan: &[Lot]) -> Result<Verdict, Refusal> {
-        self.table.header()?;
-        weighed(&self.table, plan, self.backlog)
+        let opened = self.table.opened()?;
+        Problem::new(self.kind, opened).weighed(plan)
     }
 
     fn least(&self) -> Result<u64, Refusal> {
-        self.table.header()?;
-        let cost = least_cost(&self.table, self.backlog);
-        Ok(cost)
+        let opened = self.table.opened()?;
+        Ok(Problem::new(self.kind, opened).least())
     }
 }

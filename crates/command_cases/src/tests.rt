@@ -6,10 +6,10 @@ use std::test::Fail;
 
 // The program's answer to a line of words: the text, or what is wrong.
 fn answer(heap: Global, line: &str) -> Result<String, AllocError> {
-    let mut words = Vec::new(heap);
-    for word in line.split_whitespace() {
-        words.push(String::from_str(heap, word)?)?;
-    }
+    let words: Vec<String> = line
+        .split_whitespace()
+        .map(|word| String::from_str(heap, word))
+        .try_collect(heap)?;
     match run(heap, words.as_slice()) {
         Ok(text) => Ok(text),
         Err(error) => format!(in heap; "{error}"),
@@ -111,18 +111,16 @@ fn thirty_two_periods_close(rt: HostRuntime) -> Result<(), Fail> {
 
 #[test]
 fn refuses_to_charge_past_the_range(rt: HostRuntime) -> Result<(), Fail> {
-    let Some(price) = CapacityPrice::new(1) else {
-        return Err(Fail::new("no price"));
-    };
+    let price = CapacityPrice::new(1).ok_or_else(|| Fail::new("no price"))?;
     let times = [PricedTime {
         price,
         minutes: Minutes::one(),
     }; 2];
     let mut account = TimeAccount::new(ScaledMoney::new(i64::MAX - 1));
-    match out_and_back(rt.alloc(), &mut account, &times) {
-        Ok(_) => return Err(Fail::new("it charged past the range")),
-        Err(refusal) => assert_eq!(rt; refusal, Refusal::OutOfRange),
-    }
+    assert_eq!(rt;
+        out_and_back(rt.alloc(), &mut account, &times).err(),
+        Some(Refusal::OutOfRange)
+    );
     assert_eq!(rt; account.balance(), ScaledMoney::new(i64::MAX - 1));
     let mut account = TimeAccount::new(ScaledMoney::new(i64::MAX - 2));
     assert!(rt; out_and_back(rt.alloc(), &mut account, &times).is_ok());

@@ -1,5 +1,6 @@
 pub mod Ledger
 pub mod Meanings
+pub mod Mistakes
 pub mod Printed
 pub mod Statements
 pub mod Texts

@@ -1,29 +1,15 @@
 -- What the words of a command mean.
-use Rattle.std.specs.Prelude.{◌≡◌, ℕ, ◌+◌, ◌*◌, cond, ◌&&◌, List, [], ◌∷◌, map, length, Some, None, Ok, Err, vec_items, string_bytes, Option, Result, Vec, String, ◌==◌, nat_lt}
+use Rattle.std.specs.Prelude.{ℕ, ◌*◌, cond, List, [], ◌∷◌, length, Some, None, Ok, Err, vec_items, Option, Result, Vec, ◌==◌, nat_lt}
 use Rattle.std.specs.declared.alloc.Global.{Global}
-use Rattle.std.specs.Str.Parse.{without_leading_plus, digits_value}
-use Rattle.std.specs.Str.{all_ascii_digits}
+use Rattle.std.specs.Option.{option_map}
 use Rattle.money.specs.Limits.{scale_of, price_of}
 use Rattle.money.specs.declared.priced.PricedTime.{PricedTime}
-use Rattle.commands.specs.declared.errors.CommandError.{CommandError}
-use Rattle.commands.specs.declared.errors.CommandError.TheVariants.{Memory, Misused}
-use Rattle.commands.specs.declared.errors.Misuse.{Misuse}
-use Rattle.commands.specs.declared.errors.Misuse.TheVariants.{NoScale, BadScale, NoPrice, TooManyPrices, BadPrice}
-use Rattle.commands.specs.declared.words.MinuteRequest.{MinuteRequest}
+use Rattle.words.specs.Readings.{number, limited}
+use Rattle.words.specs.Turns.{read_each}
+use Rattle.commands.specs.declared.mistakes.Misuse.{Misuse}
+use Rattle.commands.specs.declared.mistakes.Misuse.TheVariants.{NoScale, BadScale, NoPrice, TooManyPrices, BadPrice}
+use Rattle.commands.specs.declared.requests.MinuteRequest.{MinuteRequest}
 use Rattle.commands.specs.Ledger.{worths}
-
--- the bytes of each word
-abbrev pub texts : List (String Global) → List (List ℕ)
-texts words = map string_bytes words
-
--- the number that a word of decimal digits writes, with or without a plus in front
-abbrev pub number : List ℕ → Option ℕ
-number word = cond (nat_lt 0 (length (without_leading_plus word)) && all_ascii_digits (without_leading_plus word)) (Some (digits_value 10 (without_leading_plus word))) None
-
--- a number, if there is one, under a limit
-abbrev pub limited : (ℕ → Option ℕ) → Option ℕ → Option ℕ
-limited limit None = None
-limited limit (Some n) = limit n
 
 -- the scale that a word writes
 abbrev pub scale_word : List ℕ → Option ℕ
@@ -33,16 +19,13 @@ scale_word word = limited scale_of (number word)
 abbrev pub price_word : List ℕ → Option ℕ
 price_word word = limited price_of (number word)
 
--- one minute at the price of a period before those of the later ones
-abbrev pub minute_then : ℕ → Option ℕ → Result (List ℕ) Misuse → Result (List ℕ) Misuse
-minute_then period None rest = Err (BadPrice period)
-minute_then period (Some price) (Ok ns) = Ok (price * 1 ∷ ns)
-minute_then period (Some price) (Err m) = Err m
+-- the worth of one minute at the price that a word writes
+abbrev pub minute_word : List ℕ → Option ℕ
+minute_word word = option_map (λ price. price * 1) (price_word word)
 
--- the worth of one minute at each word's price, from a period on; the lowest period with a bad price is named
-abbrev pub one_minute : ℕ → List (List ℕ) → Result (List ℕ) Misuse
-one_minute period [] = Ok []
-one_minute period (w ∷ ws) = minute_then period (price_word w) (one_minute (period + 1) ws)
+-- the worth of one minute at each word's price; the lowest period with a bad price is named
+abbrev pub one_minute : List (List ℕ) → Result (List ℕ) Misuse
+one_minute words = read_each minute_word BadPrice 0 words
 
 -- what the verb `minute` is asked for
 pub record Minute : Type 0 where
@@ -57,7 +40,7 @@ at_scale k (Err m) = Err m
 -- the prices after a scale: 1 to 32 of them
 abbrev pub price_words : Option ℕ → List (List ℕ) → Result Minute Misuse
 price_words None words = Err BadScale
-price_words (Some k) words = cond (length words == 0) (Err NoPrice) (cond (nat_lt 32 (length words)) (Err TooManyPrices) (at_scale k (one_minute 0 words)))
+price_words (Some k) words = cond (length words == 0) (Err NoPrice) (cond (nat_lt 32 (length words)) (Err TooManyPrices) (at_scale k (one_minute words)))
 
 -- the words SCALE PRICE...
 abbrev pub minute_words : List (List ℕ) → Result Minute Misuse
@@ -71,9 +54,3 @@ worths_in times = worths (vec_items times)
 -- the request that an answer holds
 abbrev pub request_in : MinuteRequest → Minute
 request_in q = record { scale = q.scale.number; worths = worths_in q.times }
-
--- r is what was meant, by what `held` reads of it, unless memory was short
-abbrev pub Means : {X Y : Type 0} → (X → Y) → Result X CommandError → Result Y Misuse → Type 0
-Means held (Ok x) meant = meant ≡ Ok (held x)
-Means held (Err Memory) meant = Unit {0}
-Means held (Err (Misused m)) meant = meant ≡ Err m

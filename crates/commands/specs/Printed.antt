@@ -1,8 +1,8 @@
 -- What the program answers to its words: a text, or what is wrong with them.
 use Rattle.std.specs.Prelude.{ℕ, cond, List, [], ◌∷◌, pos, Ok, Err, codes, Result}
 use Rattle.std.specs.Str.{bytes_eq}
-use Rattle.commands.specs.declared.errors.Misuse.{Misuse}
-use Rattle.commands.specs.declared.errors.Misuse.TheVariants.{UnknownVerb}
+use Rattle.commands.specs.declared.mistakes.Misuse.{Misuse}
+use Rattle.commands.specs.declared.mistakes.Misuse.TheVariants.{UnknownVerb}
 use Rattle.commands.specs.Ledger.{out_and_back}
 use Rattle.commands.specs.Meanings.{Minute, minute_words}
 use Rattle.commands.specs.Texts.{statement_text, usage_text}

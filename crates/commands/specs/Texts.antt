@@ -3,10 +3,6 @@ use Rattle.std.specs.Prelude.{ℕ, cond, List, ◌++◌, ℤ, codes, decimal}
 use Rattle.std.specs.List.{flat_map}
 use Rattle.std.specs.Fmt.{signed_decimal}
 use Rattle.money.specs.Range.{is_zero}
-use Rattle.commands.specs.declared.errors.CommandError.{CommandError}
-use Rattle.commands.specs.declared.errors.CommandError.TheVariants.{Memory, Misused}
-use Rattle.commands.specs.declared.errors.Misuse.{Misuse}
-use Rattle.commands.specs.declared.errors.Misuse.TheVariants.{UnknownVerb, NoScale, BadScale, NoPrice, TooManyPrices, BadPrice}
 use Rattle.commands.specs.declared.ledger.Entry.{Entry}
 use Rattle.commands.specs.declared.ledger.Posting.{Posting}
 use Rattle.commands.specs.declared.ledger.Posting.TheVariants.{Charge, HandBack}
@@ -41,17 +37,3 @@ statement_text k ledger balance whole = flat_map line_text ledger ++ balance_tex
 -- how the program is used, in full
 abbrev pub usage_text : List ℕ
 usage_text = codes "usage: lotaudit minute SCALE PRICE...\n  SCALE is a whole number from 1 to 1000.\n  There are 1 to 32 PRICEs, one for each period, each a whole number from 0 to 100000, in K-ths.\n  One minute of each period is charged at its price, then handed back.\n"
-
--- what is wrong with the words of a command
-abbrev pub misuse_text : Misuse → List ℕ
-misuse_text UnknownVerb = codes "the verb is not known"
-misuse_text NoScale = codes "the scale is missing"
-misuse_text BadScale = codes "the scale is not a whole number from 1 to 1000"
-misuse_text NoPrice = codes "the prices are missing"
-misuse_text TooManyPrices = codes "there are more than 32 prices"
-misuse_text (BadPrice period) = codes "the price of period " ++ (decimal period ++ codes " is not a whole number from 0 to 100000")
-
--- why a command was not carried out, on one line
-abbrev pub error_text : CommandError → List ℕ
-error_text Memory = codes "there is not enough memory"
-error_text (Misused m) = misuse_text m ++ codes "; usage: lotaudit minute SCALE PRICE..."

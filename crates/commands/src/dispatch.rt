@@ -1,12 +1,13 @@
 // From the program's words to its answer.
 ghost use Rattle.std.specs.Prelude.{string_bytes};
-ghost use Rattle.commands.specs.Meanings.{texts, minute_words, Means};
+ghost use Rattle.words.specs.Readings.{texts, Means};
+ghost use Rattle.commands.specs.Meanings.{minute_words};
 ghost use Rattle.commands.specs.Printed.{minute_answer, answer};
 
-use crate::errors::{CommandError, Misuse};
 use crate::ledger::Refusal;
 use crate::minute::Statement;
-use crate::words::minute_request;
+use crate::mistakes::{CommandError, Misuse};
+use crate::requests::minute_request;
 use std::alloc::Global;
 
 // How the program is used, in full.
@@ -33,6 +34,6 @@ pub fn run(heap: Global, words: &[String]) -> Result<String, CommandError>
     };
     match verb.as_str() {
         "minute" => minute(heap, rest),
-        _ => Err(CommandError::Misused(Misuse::UnknownVerb)),
+        _ => Err(Misuse::UnknownVerb.into()),
     }
 }

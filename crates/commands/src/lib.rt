@@ -2,13 +2,13 @@
 #![tactic(auto)]
 
 mod dispatch;
-mod errors;
 mod ledger;
 mod minute;
-mod words;
+mod mistakes;
+mod requests;
 
 pub use dispatch::run;
-pub use errors::{CommandError, Misuse};
 pub use ledger::{Entry, Posting, Refusal, out_and_back};
 pub use minute::Statement;
-pub use words::{MinuteRequest, minute_request};
+pub use mistakes::{CommandError, Misuse};
+pub use requests::{MinuteRequest, minute_request};

@@ -6,13 +6,13 @@ use Rattle.item.specs.declared.records.Lot.{Lot}
 use Rattle.item.specs.declared.records.Refusal.{Refusal}
 use Rattle.item.specs.declared.records.Refusal.TheVariants.{HeaderNotKnown, CostTooHigh, NotOpened, RowTooLarge, TooManyRows}
 use Rattle.item.specs.declared.records.Row.{Row}
-use Rattle.item.specs.declared.records.Verdict.{Verdict}
-use Rattle.item.specs.declared.records.Verdict.TheVariants.{Cost, Fault}
 use Rattle.item.specs.Asked.{and_then, tell_all_answer, fill_answer, item_least, AnsweredLeast}
 use Rattle.item.specs.Calls.{open_answer, tell_answer, held_after_tell, named_least, least_answer}
-use Rattle.item.specs.Least.{cost_of, lower, lowest_to, lot, lowest_plan, least_cost, IsLeast, LeastMeans}
+use Rattle.std.specs.Result.{result_ok}
+use Rattle.item.specs.Least.{lower, lowest_to, lot, lowest_plan, least_cost, IsLeast, LeastMeans}
 use Rattle.item.specs.Limits.{most_amount, most_rows, most_cost, amounts_up_to, row_within, fits}
 use Rattle.item.specs.Meanings.{Meaning, Held, unopened, opened}
+use Rattle.item.specs.Verdicts.{Verdict}
 
 -- there is a lowest value, and it is no higher than k
 abbrev AtMost : ℕ → Option ℕ → Type 0
@@ -90,9 +90,9 @@ plans_low m (suc k) f (l ∷ ls) c s e =
     to_low m _ c l.amount (leb-true l.amount m p.0)
     (⊎_elim (λ yes. lower_right c _ _ (from true yes)) (λ none. lower_left c _ _ (from false none)) (cases_Bool l.setup))
 
-cost_some : (w : Verdict) (n : ℕ) → cost_of w ≡ Some n → w ≡ Cost n
-cost_some (Cost c) n e = ap Cost (some_is c n e)
-cost_some (Fault c p d) n e = none_is_not n e
+cost_some : (w : Verdict) (n : ℕ) → result_ok w ≡ Some n → w ≡ Ok n
+cost_some (Ok c) n e = ap Ok (some_is c n e)
+cost_some (Err f) n e = none_is_not n e
 
 module _ (v : List Row → List Lot → Verdict) (rows : List Row) where
   sized : (plan : List Lot) → fits rows plan ≡ true → Sized most_amount (length rows) plan
@@ -101,8 +101,8 @@ module _ (v : List Row → List Lot → Verdict) (rows : List Row) where
   fitting : (plan : List Lot) → Sized most_amount (length rows) plan → fits rows plan ≡ true
   fitting plan s = and_from (eqb (length plan) (length rows)) (amounts_up_to most_amount plan) (eq-eqb _ _ s.long) s.small
 
-  low : (plan : List Lot) (k : ℕ) → fits rows plan ≡ true → v rows plan ≡ Cost k → AtMost k (least_cost v rows)
-  low plan k f e = plans_low most_amount (length rows) (λ p. cost_of (v rows p)) plan k (sized plan f) (ap cost_of e)
+  low : (plan : List Lot) (k : ℕ) → fits rows plan ≡ true → v rows plan ≡ Ok k → AtMost k (least_cost v rows)
+  low plan k f e = plans_low most_amount (length rows) (λ p. result_ok (v rows p)) plan k (sized plan f) (ap result_ok e)
 
   -- the value says what the relation says
   pub least_means : LeastMeans v rows (least_cost v rows)
@@ -111,7 +111,7 @@ module _ (v : List Row → List Lot → Verdict) (rows : List Row) where
       go : (o : Option ℕ) → least_cost v rows ≡ o → LeastMeans v rows o
       go None e = λ plan k f c. let a = low plan k f c in none_is_not a.0 (sym e ∙ a.1)
       go (Some n) e =
-          let r = plans_some most_amount (length rows) (λ p. cost_of (v rows p)) n e in
+          let r = plans_some most_amount (length rows) (λ p. result_ok (v rows p)) n e in
           record {
             reached = (r.0, fitting r.0 r.1, cost_some (v rows r.0) n r.2);
             lowest = λ plan k f c. let a = low plan k f c in let same = some_is n a.0 (sym e ∙ a.1) in let l = a.2 in omega arith;

@@ -1,3 +1,2 @@
 pub mod Leasts
-pub mod Rows
 pub mod Tells

@@ -1,5 +1,5 @@
 -- The steps of opening a header and telling its rows.
-use Rattle.std.proofs.Common.{◌≡◌, ℕ, ◌+◌, ◌<◌, ◌≤◌, Bool, true, false, cond, ◌&&◌, ltb, List, [], ◌∷◌, ◌++◌, length, get_or, take, drop, Ok, Err, Result, sym, refl, ap, ◌∙◌, append_assoc, append-nil, arith}
+use Rattle.std.proofs.Common.{◌≡◌, ℕ, ◌+◌, ◌<◌, ◌≤◌, Bool, true, false, cond, ◌&&◌, ltb, List, [], ◌∷◌, ◌++◌, length, get_or, take, drop, Ok, Err, Result, sym, refl, ap, ◌∙◌, append_assoc, arith}
 use Rattle.std.proofs.lemmas.List.{drop_all, drop_more, take_more}
 use Rattle.item.specs.declared.records.Header.{Header}
 use Rattle.item.specs.declared.records.Row.{Row}
@@ -18,18 +18,19 @@ and_rows rows (opened h old) = opened h (old ++ rows)
 pub not_refused : {A X : Type 0} (a : A) (e : Refusal) → ◌≡◌ {A = Result A Refusal} (Ok a) (Err e) → X
 not_refused a e p = let z : ◌≡◌ {A = ℕ} 0 1 = cc in absurd (omega arith)
 
--- an opening that was not refused
-pub record Known (m : Meaning) (h : Header) (old : Held) (rows : List Row) : Type 0 where
-  pub known : m.knows h ≡ true
-  pub holds : held_after_open m h old ≡ opened h []
-  pub says : fill_answer m h rows ≡ tell_all_answer rows (opened h [])
-  pub leaves : held_after_fill m h rows old ≡ held_after_tell_all rows (opened h [])
+-- an opening that was not refused, after which now is held
+pub record Known (m : Meaning) (h : Header) (old now : Held) (rows : List Row) : Type 0 where
+  pub holds : now ≡ opened h []
+  pub says : fill_answer m h rows ≡ tell_all_answer rows now
+  pub leaves : held_after_fill m h rows old ≡ held_after_tell_all rows now
 
-pub known_by : (m : Meaning) (h : Header) (old : Held) (rows : List Row) (u : Unit {0}) → Ok u ≡ open_answer m h → Known m h old rows
-known_by m h old rows u e = go (m.knows h) refl e
+pub known_by : (m : Meaning) (h : Header) (old now : Held) (rows : List Row) (u : Unit {0}) → Ok u ≡ open_answer m h → now ≡ held_after_open m h old → Known m h old now rows
+known_by m h old now rows u e n = go (m.knows h) refl e
   where
-    go : (b : Bool) → m.knows h ≡ b → ◌≡◌ {A = Result (Unit {0}) Refusal} (Ok u) (cond b (Ok tt) (Err HeaderNotKnown)) → Known m h old rows
-    go true k e = record { known = k; holds = rw k; says = rw k; leaves = rw k }
+    go : (b : Bool) → m.knows h ≡ b → ◌≡◌ {A = Result (Unit {0}) Refusal} (Ok u) (cond b (Ok tt) (Err HeaderNotKnown)) → Known m h old now rows
+    go true k e =
+        let holds : now ≡ opened h [] = n ∙ rw k in
+        record { holds = holds; says = rw k (sym (ap (tell_all_answer rows) holds)); leaves = rw k (sym (ap (held_after_tell_all rows) holds)) }
     go false k e = not_refused u HeaderNotKnown e
 
 -- a row that was not refused is within its limits, and there was room for it
@@ -66,10 +67,6 @@ module _ (rows : List Row) (i : ℕ) (d : Row) (lt : i < length rows) (held : He
       let b = told_both h (old ++ take i rows) (get_or rows i d) u (e ∙ ap (tell_answer (get_or rows i d)) p) in
       let more : (old ++ take i rows) ++ (get_or rows i d ∷ []) ≡ old ++ take (i + 1) rows = append_assoc old (take i rows) (get_or rows i d ∷ []) ∙ ap (λ (z : List Row). old ++ z) (sym (take_more rows i d lt)) in
       ap (held_after_tell (get_or rows i d)) p ∙ rw (b.0, b.1) (ap (opened h) more)
-
-pub no_rows : (start : Held) → start ≡ and_rows [] start
-no_rows unopened = refl
-no_rows (opened h old) = ap (opened h) (sym (append-nil old))
 
 pub tell_end : (rows : List Row) (i : ℕ) (held : Held) → length rows ≤ i → tell_all_answer (drop i rows) held ≡ Ok tt
 tell_end rows i held le = ap (λ z. tell_all_answer z held) (drop_all i rows le)

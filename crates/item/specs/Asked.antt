@@ -5,12 +5,11 @@ use Rattle.item.specs.declared.records.Lot.{Lot}
 use Rattle.item.specs.declared.records.Refusal.{Refusal}
 use Rattle.item.specs.declared.records.Refusal.TheVariants.{CostTooHigh}
 use Rattle.item.specs.declared.records.Row.{Row}
-use Rattle.item.specs.declared.records.Verdict.{Verdict}
-use Rattle.item.specs.declared.records.Verdict.TheVariants.{Cost}
 use Rattle.item.specs.Calls.{open_answer, tell_answer, held_after_tell, weigh_answer, least_answer}
 use Rattle.item.specs.Least.{IsLeast}
 use Rattle.item.specs.Limits.{most_cost, fits}
 use Rattle.item.specs.Meanings.{Meaning, Held, opened}
+use Rattle.item.specs.Verdicts.{Verdict}
 
 -- what follows, unless this was refused
 abbrev pub and_then : {A B : Type 0} → Result A Refusal → (A → Result B Refusal) → Result B Refusal
@@ -51,4 +50,4 @@ item_verdict m h rows plan = and_then (fill_answer m h rows) (λ _. weigh_answer
 -- what an answer about the least says of all plans that fit and are admitted: a number is the least cost, and by a cost too high they all are
 pub record AnsweredLeast (m : Meaning) (h : Header) (rows : List Row) (r : Result ℕ Refusal) : Type 0 where
   pub number : (n : ℕ) → r ≡ Ok n → IsLeast (m.verdict h) rows n
-  pub too_high : r ≡ Err CostTooHigh → (plan : List Lot) (k : ℕ) → fits rows plan ≡ true → m.verdict h rows plan ≡ Cost k → most_cost < k
+  pub too_high : r ≡ Err CostTooHigh → (plan : List Lot) (k : ℕ) → fits rows plan ≡ true → m.verdict h rows plan ≡ Ok k → most_cost < k

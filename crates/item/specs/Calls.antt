@@ -5,11 +5,10 @@ use Rattle.item.specs.declared.records.Lot.{Lot}
 use Rattle.item.specs.declared.records.Refusal.{Refusal}
 use Rattle.item.specs.declared.records.Refusal.TheVariants.{HeaderNotKnown, CostTooHigh, NotOpened, RowTooLarge, TooManyRows, PlanDoesNotFit}
 use Rattle.item.specs.declared.records.Row.{Row}
-use Rattle.item.specs.declared.records.Verdict.{Verdict}
-use Rattle.item.specs.declared.records.Verdict.TheVariants.{Cost, Fault}
 use Rattle.item.specs.Least.{least_cost}
 use Rattle.item.specs.Limits.{most_rows, most_cost, row_within, rows_within, fits}
 use Rattle.item.specs.Meanings.{Meaning, Held, unopened, opened}
+use Rattle.item.specs.Verdicts.{Verdict}
 
 -- opening a header
 abbrev pub open_answer : Meaning → Header → Result (Unit {0}) Refusal
@@ -18,11 +17,6 @@ open_answer m h = cond (m.knows h) (Ok tt) (Err HeaderNotKnown)
 -- after opening: a known header and no rows, else what was held
 abbrev pub held_after_open : Meaning → Header → Held → Held
 held_after_open m h held = cond (m.knows h) (opened h []) held
-
--- the header opened
-abbrev pub header_answer : Held → Result Header Refusal
-header_answer unopened = Err NotOpened
-header_answer (opened h rows) = Ok h
 
 -- telling a row
 abbrev pub tell_answer : Row → Held → Result (Unit {0}) Refusal
@@ -40,8 +34,8 @@ named n = cond (nat_le n most_cost) (Ok n) (Err CostTooHigh)
 
 -- a verdict, unless its cost is above the highest that is named
 abbrev pub named_verdict : Verdict → Result Verdict Refusal
-named_verdict (Cost n) = cond (nat_le n most_cost) (Ok (Cost n)) (Err CostTooHigh)
-named_verdict (Fault c p d) = Ok (Fault c p d)
+named_verdict (Ok n) = cond (nat_le n most_cost) (Ok (Ok n)) (Err CostTooHigh)
+named_verdict (Err f) = Ok (Err f)
 
 -- weighing a plan
 abbrev pub weigh_answer : Meaning → List Lot → Held → Result Verdict Refusal
@@ -68,8 +62,3 @@ pub record Proper (m : Meaning) (h : Header) (rows : List Row) : Type 0 where
 abbrev pub ProperHeld : Meaning → Held → Type 0
 ProperHeld m unopened = Unit {0}
 ProperHeld m (opened h rows) = Proper m h rows
-
--- what a table's two parts hold
-abbrev pub held_of : Option Header → List Row → Held
-held_of None rows = unopened
-held_of (Some h) rows = opened h rows

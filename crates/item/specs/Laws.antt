@@ -1,12 +1,12 @@
 -- The laws that every rule shows, for known headers, up to 32 rows, demands within their limit, and prices of any size.
-use Rattle.std.specs.Prelude.{◌≡◌, ℕ, zero, suc, ◌+◌, ◌*◌, ◌≤◌, Bool, true, false, cond, not, ◌&&◌, ◌||◌, List, [], ◌∷◌, length, nat_le, nat_lt}
+use Rattle.std.specs.Prelude.{◌≡◌, ℕ, zero, suc, ◌+◌, ◌*◌, ◌≤◌, Bool, true, false, cond, not, ◌&&◌, ◌||◌, Ok, Err, List, [], ◌∷◌, length, nat_le, nat_lt}
 use Rattle.item.specs.declared.records.Header.{Header}
 use Rattle.item.specs.declared.records.Lot.{Lot}
 use Rattle.item.specs.declared.records.Row.{Row}
-use Rattle.item.specs.declared.records.Verdict.{Verdict}
-use Rattle.item.specs.declared.records.Verdict.TheVariants.{Cost, Fault}
+use Rattle.item.specs.declared.records.Fault.{Fault}
 use Rattle.item.specs.Limits.{most_rows, demands_within, fits}
 use Rattle.item.specs.Meanings.{Meaning}
+use Rattle.item.specs.Verdicts.{Verdict}
 
 -- a row's prices times k, then e more on its setup price and f more on its unit price
 abbrev pub repriced_row : ℕ → ℕ → ℕ → Row → Row
@@ -24,8 +24,8 @@ surcharge e f (l ∷ ls) = (cond l.setup (e 0) 0 + f 0 * l.amount) + surcharge (
 
 -- a cost times k and x more; a fault stays
 abbrev pub dearer : ℕ → ℕ → Verdict → Verdict
-dearer k x (Cost n) = Cost (k * n + x)
-dearer k x (Fault c p d) = Fault c p d
+dearer k x (Ok n) = Ok (k * n + x)
+dearer k x (Err f) = Err f
 
 -- period t of a plan has no setup
 abbrev pub idle_at : ℕ → List Lot → Bool
@@ -46,8 +46,8 @@ setup_price zero (r ∷ rs) = r.setup
 setup_price (suc t) (r ∷ rs) = setup_price t rs
 
 -- a fault's cause is none of 5 to 8, and its cause, period and depth fit a byte each
-abbrev pub proper_fault : ℕ → ℕ → ℕ → Bool
-proper_fault cause period depth = (nat_lt cause 5 || nat_lt 8 cause) && (nat_le cause 255 && (nat_le period 255 && nat_le depth 255))
+abbrev pub proper_fault : Fault → Bool
+proper_fault f = (nat_lt f.cause 5 || nat_lt 8 f.cause) && (nat_le f.cause 255 && (nat_le f.period 255 && nat_le f.depth 255))
 
 -- rows of which the laws speak
 abbrev pub lawful_rows : List Row → Bool
@@ -63,19 +63,19 @@ PriceLaw v =
 abbrev pub IdleLaw : (List Row → List Lot → Verdict) → Type 0
 IdleLaw v =
     (rows : List Row) (plan : List Lot) (t n : ℕ) → lawful_rows rows ≡ true → fits rows plan ≡ true → idle_at t plan ≡ true →
-    v rows plan ≡ Cost n → v rows (with_setup t plan) ≡ Cost (n + setup_price t rows)
+    v rows plan ≡ Ok n → v rows (with_setup t plan) ≡ Ok (n + setup_price t rows)
 
 -- supply law: some plan that fits is admitted
 abbrev pub SupplyLaw : (List Row → List Lot → Verdict) → Type 0
 SupplyLaw v =
     (rows : List Row) → lawful_rows rows ≡ true →
-    (plan : List Lot) × (fits rows plan ≡ true) × ((n : ℕ) × (v rows plan ≡ Cost n))
+    (plan : List Lot) × (fits rows plan ≡ true) × ((n : ℕ) × (v rows plan ≡ Ok n))
 
 -- fault law: each fault is a proper one
 abbrev pub FaultLaw : (List Row → List Lot → Verdict) → Type 0
 FaultLaw v =
-    (rows : List Row) (plan : List Lot) (cause period depth : ℕ) → lawful_rows rows ≡ true → fits rows plan ≡ true →
-    v rows plan ≡ Fault cause period depth → proper_fault cause period depth ≡ true
+    (rows : List Row) (plan : List Lot) (f : Fault) → lawful_rows rows ≡ true → fits rows plan ≡ true →
+    v rows plan ≡ Err f → proper_fault f ≡ true
 
 -- the laws of the verdicts on one header
 pub record Lawful (v : List Row → List Lot → Verdict) : Type 0 where

@@ -1,15 +1,10 @@
 -- The least cost over all plans that fit and are admitted.
-use Rattle.std.specs.Prelude.{◌≡◌, ℕ, zero, suc, ◌≤◌, min, Bool, true, false, List, [], ◌∷◌, length, Some, None, Option, ◌≢◌}
+use Rattle.std.specs.Prelude.{◌≡◌, ℕ, zero, suc, ◌≤◌, min, Bool, true, false, List, [], ◌∷◌, length, Some, None, Ok, Option, ◌≢◌}
 use Rattle.item.specs.declared.records.Lot.{Lot}
 use Rattle.item.specs.declared.records.Row.{Row}
-use Rattle.item.specs.declared.records.Verdict.{Verdict}
-use Rattle.item.specs.declared.records.Verdict.TheVariants.{Cost, Fault}
 use Rattle.item.specs.Limits.{most_amount, fits}
-
--- the cost of a plan that is admitted
-abbrev pub cost_of : Verdict → Option ℕ
-cost_of (Cost n) = Some n
-cost_of (Fault c p d) = None
+use Rattle.item.specs.Verdicts.{Verdict}
+use Rattle.std.specs.Result.{result_ok}
 
 -- the lower of two costs, where there are any
 abbrev pub lower : Option ℕ → Option ℕ → Option ℕ
@@ -33,16 +28,16 @@ lowest_plan m (suc k) f = lowest_to m (λ n. lower (lowest_plan m k (λ ls. f (l
 
 -- the least cost of all plans that fit and are admitted, or none if no such plan is
 abbrev pub least_cost : (List Row → List Lot → Verdict) → List Row → Option ℕ
-least_cost v rows = lowest_plan most_amount (length rows) (λ plan. cost_of (v rows plan))
+least_cost v rows = lowest_plan most_amount (length rows) (λ plan. result_ok (v rows plan))
 
 -- n is the least: a plan that fits costs it, and none that fits costs less
 pub record IsLeast (v : List Row → List Lot → Verdict) (rows : List Row) (n : ℕ) : Type 0 where
-  pub reached : (plan : List Lot) × (fits rows plan ≡ true) × (v rows plan ≡ Cost n)
-  pub lowest : (plan : List Lot) (k : ℕ) → fits rows plan ≡ true → v rows plan ≡ Cost k → n ≤ k
+  pub reached : (plan : List Lot) × (fits rows plan ≡ true) × (v rows plan ≡ Ok n)
+  pub lowest : (plan : List Lot) (k : ℕ) → fits rows plan ≡ true → v rows plan ≡ Ok k → n ≤ k
 
 -- no plan that fits is admitted
 abbrev pub NoneAdmitted : (List Row → List Lot → Verdict) → List Row → Type 0
-NoneAdmitted v rows = (plan : List Lot) (k : ℕ) → fits rows plan ≡ true → v rows plan ≢ Cost k
+NoneAdmitted v rows = (plan : List Lot) (k : ℕ) → fits rows plan ≡ true → v rows plan ≢ Ok k
 
 -- what a least cost says of all plans, or that there is none
 abbrev pub LeastMeans : (List Row → List Lot → Verdict) → List Row → Option ℕ → Type 0

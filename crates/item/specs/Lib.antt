@@ -1,5 +1,6 @@
 pub mod Limits
 pub mod Refusals
+pub mod Verdicts
 pub mod Meanings
 pub mod Laws
 pub mod Least

@@ -7,43 +7,47 @@ ghost use Rattle.item.specs.Meanings.{opened};
 use crate::records::{Header, Lot, Refusal, Row, Verdict};
 use crate::rules::ItemRule;
 
-// Opens the header and tells each row.
-pub fn fill<R: ItemRule>(rule: &mut R, header: Header, rows: &[Row]) -> Result<(), Refusal>
-    ensures says { result ≡ fill_answer (R.meaning rule.old) header rows.now }
-    ensures holds { R.held rule.new ≡ held_after_fill (R.meaning rule.old) header rows.now (R.held rule.old) }
-    ensures fills { result ≡ Ok tt → R.sound rule.new × (R.held rule.new ≡ opened header rows.now) }
-    ensures same { R.meaning rule.new ≡ R.meaning rule.old }
-{
-    rule.open(header)?;
-    for row in rows {
-        rule.tell(*row)?;
+// An item: its header, and its rows.
+#[derive(Clone, Copy, Debug)]
+pub struct Item<'a> {
+    pub header: Header,
+    pub rows: &'a [Row],
+}
+
+impl Item<'_> {
+    // Opens the header and tells each row.
+    pub fn fill<R: ItemRule>(&self, rule: &mut R) -> Result<(), Refusal>
+        ensures says { result ≡ fill_answer (R.meaning rule.old) self.now.header self.now.rows.now }
+        ensures holds { R.held rule.new ≡ held_after_fill (R.meaning rule.old) self.now.header self.now.rows.now (R.held rule.old) }
+        ensures fills { result ≡ Ok tt → R.held rule.new ≡ opened self.now.header self.now.rows.now }
+        ensures same { R.meaning rule.new ≡ R.meaning rule.old }
+    {
+        rule.open(self.header)?;
+        for row in self.rows {
+            rule.tell(*row)?;
+        }
+        Ok(())
     }
-    Ok(())
-}
 
-// The least cost of an item.
-pub fn item_least<R: ItemRule>(rule: &mut R, header: Header, rows: &[Row]) -> Result<u64, Refusal>
-    ensures says { result ≡ item_least (R.meaning rule.old) header rows.now }
-    ensures holds { R.held rule.new ≡ held_after_fill (R.meaning rule.old) header rows.now (R.held rule.old) }
-    ensures value { LeastMeans ((R.meaning rule.old).verdict header) rows.now (least_cost ((R.meaning rule.old).verdict header) rows.now) }
-    ensures least { AnsweredLeast (R.meaning rule.old) header rows.now result }
-    ensures same { R.meaning rule.new ≡ R.meaning rule.old }
-{
-    fill(rule, header, rows)?;
-    rule.least()
-}
+    // The least cost of the item.
+    pub fn least<R: ItemRule>(&self, rule: &mut R) -> Result<u64, Refusal>
+        ensures says { result ≡ item_least (R.meaning rule.old) self.now.header self.now.rows.now }
+        ensures holds { R.held rule.new ≡ held_after_fill (R.meaning rule.old) self.now.header self.now.rows.now (R.held rule.old) }
+        ensures value { LeastMeans ((R.meaning rule.old).verdict self.now.header) self.now.rows.now (least_cost ((R.meaning rule.old).verdict self.now.header) self.now.rows.now) }
+        ensures least { AnsweredLeast (R.meaning rule.old) self.now.header self.now.rows.now result }
+        ensures same { R.meaning rule.new ≡ R.meaning rule.old }
+    {
+        self.fill(rule)?;
+        rule.least()
+    }
 
-// The verdict on a plan for an item.
-pub fn item_verdict<R: ItemRule>(
-    rule: &mut R,
-    header: Header,
-    rows: &[Row],
-    plan: &[Lot],
-) -> Result<Verdict, Refusal>
-    ensures says { result ≡ item_verdict (R.meaning rule.old) header rows.now plan.now }
-    ensures holds { R.held rule.new ≡ held_after_fill (R.meaning rule.old) header rows.now (R.held rule.old) }
-    ensures same { R.meaning rule.new ≡ R.meaning rule.old }
-{
-    fill(rule, header, rows)?;
-    rule.weigh(plan)
+    // The verdict on a plan for the item.
+    pub fn verdict<R: ItemRule>(&self, rule: &mut R, plan: &[Lot]) -> Result<Verdict, Refusal>
+        ensures says { result ≡ item_verdict (R.meaning rule.old) self.now.header self.now.rows.now plan.now }
+        ensures holds { R.held rule.new ≡ held_after_fill (R.meaning rule.old) self.now.header self.now.rows.now (R.held rule.old) }
+        ensures same { R.meaning rule.new ≡ R.meaning rule.old }
+    {
+        self.fill(rule)?;
+        rule.weigh(plan)
+    }
 }

@@ -8,8 +8,8 @@ mod refusals;
 mod rules;
 mod tables;
 
-pub use asking::{fill, item_least, item_verdict};
-pub use limits::{MOST_AMOUNT, MOST_COST, MOST_ROWS, fits_rows, named_cost};
-pub use records::{Header, Lot, Refusal, Row, Verdict};
+pub use asking::Item;
+pub use limits::{MOST_AMOUNT, MOST_COST, MOST_ROWS, fits_rows, named_cost, named_verdict};
+pub use records::{Fault, Header, Lot, Refusal, Row, Verdict};
 pub use rules::ItemRule;
-pub use tables::RowTable;
+pub use tables::{Opened, RowTable};

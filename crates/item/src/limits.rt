@@ -40,15 +40,7 @@ impl Lot {
 pub fn fits_rows(count: usize, plan: &[Lot]) -> bool
     ensures { result ≡ (length plan.now == count && amounts_up_to most_amount plan.now) }
 {
-    if plan.len() != count {
-        return false;
-    }
-    for lot in plan {
-        if !lot.is_within_limits() {
-            return false;
-        }
-    }
-    true
+    plan.len() == count && plan.iter().all(|lot| lot.is_within_limits())
 }
 
 // A cost, unless it is too high to be named.
@@ -62,14 +54,12 @@ pub fn named_cost(cost: u64) -> Result<u64, Refusal>
     }
 }
 
-impl Verdict {
-    // The verdict, unless its cost is too high to be named.
-    pub fn named(self) -> Result<Verdict, Refusal>
-        ensures { result ≡ named_verdict self }
-    {
-        if let Verdict::Cost(cost) = self {
-            named_cost(cost)?;
-        }
-        Ok(self)
+// A verdict, unless its cost is too high to be named.
+pub fn named_verdict(verdict: Verdict) -> Result<Verdict, Refusal>
+    ensures { result ≡ named_verdict verdict }
+{
+    if let Ok(cost) = verdict {
+        named_cost(cost)?;
     }
+    Ok(verdict)
 }

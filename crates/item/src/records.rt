@@ -12,7 +12,7 @@ pub struct Header {
 }
 
 // One period of one item: four prices and the demand.
-#[derive(Clone, Copy, Debug, PartialEq, Eq)]
+#[derive(Clone, Copy, Debug, Default, PartialEq, Eq)]
 pub struct Row {
     pub setup: u64,
     pub unit: u64,
@@ -22,26 +22,31 @@ pub struct Row {
 }
 
 // What a plan makes in one period, and whether it sets up for it.
+// No Option of an amount: a plan may make something without a setup, which is a fault, or set up for nothing.
 #[derive(Clone, Copy, Debug, PartialEq, Eq)]
 pub struct Lot {
     pub amount: u32,
     pub setup: bool,
 }
 
-// What a rule says of a plan: its exact cost, or its first fault.
+// Why a plan is not admitted. The cause is a number and no enum, since each rule may have causes of its own.
 #[derive(Clone, Copy, Debug, PartialEq, Eq)]
-pub enum Verdict {
-    Cost(u64),
-    Fault { cause: u8, period: u8, depth: u8 },
+pub struct Fault {
+    pub cause: u8,
+    pub period: u8,
+    pub depth: u8,
 }
 
-// Why a rule refuses a call.
+// What a rule says of a plan: its exact cost, or its first fault.
+pub type Verdict = Result<u64, Fault>;
+
+// Why a rule refuses a call, by its number.
 #[derive(Clone, Copy, Debug, PartialEq, Eq)]
 pub enum Refusal {
-    HeaderNotKnown,
-    CostTooHigh,
-    NotOpened,
-    RowTooLarge,
-    TooManyRows,
-    PlanDoesNotFit,
+    HeaderNotKnown = 5,
+    CostTooHigh = 9,
+    NotOpened = 10,
+    RowTooLarge = 11,
+    TooManyRows = 12,
+    PlanDoesNotFit = 13,
 }

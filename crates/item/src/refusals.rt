@@ -9,14 +9,7 @@ impl Refusal {
     pub fn number(self) -> u8
         ensures { result ≡ refusal_number self }
     {
-        match self {
-            Refusal::HeaderNotKnown => 5,
-            Refusal::CostTooHigh => 9,
-            Refusal::NotOpened => 10,
-            Refusal::RowTooLarge => 11,
-            Refusal::TooManyRows => 12,
-            Refusal::PlanDoesNotFit => 13,
-        }
+        self as u8
     }
 }
 

@@ -1,8 +1,8 @@
 -- What a verb and the words of an item are answered: a text, or what is wrong with them.
 use Rattle.std.specs.Prelude.{ℕ, cond, List, [], ◌∷◌, Ok, Err, codes, Result}
 use Rattle.std.specs.Str.{bytes_eq}
-use Rattle.words.specs.declared.errors.Misuse.{Misuse}
-use Rattle.words.specs.declared.errors.Misuse.TheVariants.{UnknownVerb}
+use Rattle.item_words.specs.declared.mistakes.Misuse.{Misuse}
+use Rattle.item_words.specs.declared.mistakes.Misuse.TheVariants.{UnknownVerb}
 use Rattle.item.specs.Asked.{item_least, item_verdict}
 use Rattle.item_words.specs.Items.{Item, Planned, item_words, plan_words}
 use Rattle.item_commands.specs.Rules.{rule_named, header_named}

@@ -1,39 +1,45 @@
 -- What is printed about an item.
-use Rattle.std.specs.Prelude.{ℕ, cond, List, ◌++◌, Ok, Err, codes, decimal, Result, ◌==◌}
+use Rattle.std.specs.Prelude.{ℕ, List, ◌++◌, Ok, Err, codes, decimal, Result}
 use Rattle.item.specs.declared.records.Refusal.{Refusal}
-use Rattle.item.specs.declared.records.Verdict.{Verdict}
-use Rattle.item.specs.declared.records.Verdict.TheVariants.{Cost, Fault}
+use Rattle.item.specs.declared.records.Fault.{Fault}
+use Rattle.item.specs.Verdicts.{Verdict}
+use Rattle.base_rules.specs.declared.causes.Cause.{Cause}
+use Rattle.base_rules.specs.declared.causes.UnknownCause.{UnknownCause}
+use Rattle.base_rules.specs.Causes.{cause_numbered, cause_text}
 use Rattle.item.specs.Refusals.{refusal_number, refusal_text}
 
--- what the cause of a fault is called
-abbrev pub cause_text : ℕ → List ℕ
-cause_text cause =
-    cond (cause == 1) (codes "an amount without a setup")
-    (cond (cause == 2) (codes "stock below zero") (cond (cause == 3) (codes "stock below zero after the last row") (codes "a fault of the rule")))
+-- what a named cause of a fault is called, and any other
+abbrev pub named_text : Result Cause UnknownCause → List ℕ
+named_text (Ok cause) = cause_text cause
+named_text (Err u) = codes "a fault of the rule"
 
--- the line of a verdict, as in `cost 110` or `fault 2, period 0, depth 0: stock below zero`
+-- a fault, as in `fault 2, period 0, depth 0: stock below zero`
+abbrev pub fault_text : Fault → List ℕ
+fault_text f =
+    codes "fault " ++ (decimal f.cause ++ (codes ", period " ++ (decimal f.period ++ (codes ", depth " ++ (decimal f.depth ++ (codes ": " ++ named_text (cause_numbered f.cause)))))))
+
+-- the line of a verdict, as in `cost 110`
 abbrev pub verdict_text : Verdict → List ℕ
-verdict_text (Cost n) = codes "cost " ++ (decimal n ++ codes "\n")
-verdict_text (Fault cause period depth) =
-    codes "fault " ++ (decimal cause ++ (codes ", period " ++ (decimal period ++ (codes ", depth " ++ (decimal depth ++ (codes ": " ++ (cause_text cause ++ codes "\n")))))))
+verdict_text (Ok n) = codes "cost " ++ (decimal n ++ codes "\n")
+verdict_text (Err f) = fault_text f ++ codes "\n"
 
 -- the line of a least cost, as in `least 100`
 abbrev pub least_text : ℕ → List ℕ
 least_text n = codes "least " ++ (decimal n ++ codes "\n")
 
--- the line of a refusal, as in `refused 5: the header is not known`
+-- a refusal, as in `refused 5: the header is not known`
 abbrev pub refused_text : Refusal → List ℕ
-refused_text e = codes "refused " ++ (decimal (refusal_number e) ++ (codes ": " ++ (refusal_text e ++ codes "\n")))
+refused_text e = codes "refused " ++ (decimal (refusal_number e) ++ (codes ": " ++ refusal_text e))
 
 -- a rule's answer about the least cost
 abbrev pub least_answer_text : Result ℕ Refusal → List ℕ
 least_answer_text (Ok n) = least_text n
-least_answer_text (Err e) = refused_text e
+least_answer_text (Err e) = refused_text e ++ codes "\n"
 
 -- a rule's answer about a plan
 abbrev pub verdict_answer_text : Result Verdict Refusal → List ℕ
 verdict_answer_text (Ok v) = verdict_text v
-verdict_answer_text (Err e) = refused_text e
+verdict_answer_text (Err e) = refused_text e ++ codes "\n"
 
 -- how the two verbs are used, in full
 abbrev pub usage_text : List ℕ

@@ -1,8 +1,8 @@
 // The verbs that answer about one item: words in, text out.
 #![tactic(auto)]
 
+mod answers;
 mod dispatch;
 mod rules;
-mod verdicts;
 
 pub use dispatch::run_item;

@@ -3,18 +3,16 @@ ghost use Rattle.std.specs.Prelude.{◌≡◌};
 ghost use Rattle.base_rules.specs.Verdicts.{base_rule};
 ghost use Rattle.item_commands.specs.Rules.{rule_named, header_named};
 
-use base_rules::BaseRule;
+use base_rules::{BaseRule, Kind};
 use item::Header;
 
 // The rule that a header names, and the header as that rule has it.
 pub fn named_rule(header: Header) -> (BaseRule, Header)
-    ensures rule { base_rule result.0.backlog ≡ rule_named header }
+    ensures rule { base_rule result.0.kind ≡ rule_named header }
     ensures header { result.1 ≡ header_named header }
 {
-    if header.rule == 0 {
-        (BaseRule::plain(), header)
-    } else {
-        let rule = header.rule - 1;
-        (BaseRule::backlog(), Header { rule, ..header })
+    match header.rule.checked_sub(1) {
+        None => (BaseRule::new(Kind::Plain), header),
+        Some(rule) => (BaseRule::new(Kind::Backlog), Header { rule, ..header }),
     }
 }

@@ -6,7 +6,7 @@ use Rattle.std.specs.Str.{NoCharPasses}
 use Rattle.std.proofs.lemmas.List.{take-append-drop}
 use Rattle.std.proofs.lemmas.Str.Pattern.{NoCharPasses-char, drop_at_char}
 use Rattle.std.proofs.lemmas.Bool.Decides.{nat_tests}
-use Rattle.words.proofs.Numbers.{no_number}
+use Rattle.words.proofs.Commas.{no_number}
 use Rattle.words.specs.Readings.{below, number_below}
 use Rattle.item_words.specs.Items.{in_first, fields, then_read, price_field, demand_field, row_of, row_word}
 use Rattle.words.specs.Readings.{limited}

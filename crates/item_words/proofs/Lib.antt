@@ -1,6 +1,6 @@
 pub mod Commas
-pub mod Each
 pub mod Forced
+pub mod Headers
 pub mod Marks
 pub mod Places
 pub mod Plans

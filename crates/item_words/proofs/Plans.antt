@@ -5,6 +5,7 @@ use Rattle.std.proofs.lemmas.List.{take-map, drop-map}
 use Rattle.item.specs.declared.records.Header.{Header}
 use Rattle.item.specs.declared.records.Lot.{Lot}
 use Rattle.item.specs.declared.records.Row.{Row}
+use Rattle.item_words.specs.declared.mistakes.Misuse.{Misuse}
 use Rattle.words.specs.declared.errors.CommandError.{CommandError}
 use Rattle.words.specs.declared.errors.CommandError.TheVariants.{Memory, Misused}
 use Rattle.item_words.specs.Items.{header_words, row_words, lot_words, plan_place, item_of, item_then, place_then, header_then_plan, plan_words, plan_in}
@@ -18,12 +19,12 @@ module _ (ts : List (List ℕ)) (h : Header) (words before after : List (String 
       ∙ ap (λ ws. item_then (item_of h (row_words ws)) (lot_words (drop (n + 1) (texts words)))) (take-map string_bytes n words ∙ ap texts (sym before_is))
       ∙ ap (λ ws. item_then (item_of h (row_words (texts before))) (lot_words ws)) (drop-map string_bytes (n + 1) words ∙ ap texts (sym after_is))
 
-  pub refused_rows : {V : Type 0} (held : V → List Row) (e : CommandError) → Means held (Err e) (row_words (texts before)) → Means plan_in (Err e) (plan_words ts)
+  pub refused_rows : {V : Type 0} (held : V → List Row) (e : CommandError Misuse) → Means held (Err e) (row_words (texts before)) → Means plan_in (Err e) (plan_words ts)
   refused_rows held Memory m = tt
   refused_rows held (Misused e) m = planned ∙ ap (λ r. item_then (item_of h r) (lot_words (texts after))) m
 
   module _ (rows : List Row) (rows_are : row_words (texts before) ≡ Ok rows) where
-    pub refused_plan : {V : Type 0} (held : V → List Lot) (e : CommandError) → Means held (Err e) (lot_words (texts after)) → Means plan_in (Err e) (plan_words ts)
+    pub refused_plan : {V : Type 0} (held : V → List Lot) (e : CommandError Misuse) → Means held (Err e) (lot_words (texts after)) → Means plan_in (Err e) (plan_words ts)
     refused_plan held Memory m = tt
     refused_plan held (Misused e) m =
         planned ∙ ap (λ r. item_then (item_of h r) (lot_words (texts after))) rows_are ∙ ap (item_then (item_of h (Ok rows))) m

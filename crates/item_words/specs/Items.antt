@@ -2,16 +2,18 @@
 use Rattle.std.specs.Prelude.{ℕ, ◌+◌, ◌-◌, ◌^◌, Bool, true, false, cond, ◌&&◌, List, [], ◌∷◌, length, take, drop, Some, None, Ok, Err, vec_items, codes, Option, Result, String, ◌==◌, nat_le, nat_lt, slice_index}
 use Rattle.std.specs.Borrow.{Bor}
 use Rattle.std.specs.declared.alloc.Global.{Global}
+use Rattle.std.specs.List.{position}
 use Rattle.std.specs.Option.{option_map}
 use Rattle.std.specs.Str.{bytes_eq}
 use Rattle.item.specs.declared.records.Header.{Header}
 use Rattle.item.specs.declared.records.Lot.{Lot}
 use Rattle.item.specs.declared.records.Row.{Row}
-use Rattle.words.specs.declared.errors.Misuse.{Misuse}
-use Rattle.words.specs.declared.errors.Misuse.TheVariants.{NoRule, BadRule, NoOpening, BadOpening, NoForced, BadForced, BadRow, NoPlan, BadLot}
+use Rattle.item_words.specs.declared.mistakes.Misuse.{Misuse}
+use Rattle.item_words.specs.declared.mistakes.Misuse.TheVariants.{NoRule, BadRule, NoOpening, BadOpening, NoForced, BadForced, BadRow, NoPlan, BadLot}
 use Rattle.item_words.specs.declared.items.ItemRequest.{ItemRequest}
 use Rattle.item_words.specs.declared.items.PlanRequest.{PlanRequest}
 use Rattle.words.specs.Readings.{texts, number, limited, number_below}
+use Rattle.words.specs.Turns.{read_each}
 
 -- a byte in front of the first of some fields
 abbrev pub in_first : ℕ → List (List ℕ) → List (List ℕ)
@@ -87,17 +89,6 @@ lot_of setup amount = record { amount = amount; setup = setup }
 abbrev pub lot_word : List ℕ → Option Lot
 lot_word word = cond (bytes_eq word (codes "-")) (Some (lot_of false 0)) (cond (marked word) (option_map (lot_of false) (number_below 32 (unmarked word))) (option_map (lot_of true) (number_below 32 word)))
 
--- what was read at a place, before what was read after it
-abbrev pub read_then : {X : Type 0} → Misuse → Option X → Result (List X) Misuse → Result (List X) Misuse
-read_then bad None rest = Err bad
-read_then bad (Some x) (Ok xs) = Ok (x ∷ xs)
-read_then bad (Some x) (Err m) = Err m
-
--- what each word reads as, from a place on; the lowest place that does not read is named
-abbrev pub read_each : {X : Type 0} → (List ℕ → Option X) → (ℕ → Misuse) → ℕ → List (List ℕ) → Result (List X) Misuse
-read_each read bad place [] = Ok []
-read_each read bad place (w ∷ ws) = read_then (bad place) (read w) (read_each read bad (place + 1) ws)
-
 -- the words ROW...
 abbrev pub row_words : List (List ℕ) → Result (List Row) Misuse
 row_words words = read_each row_word BadRow 0 words
@@ -149,8 +140,7 @@ item_words words = header_then (header_words words)
 
 -- the place of the first word that is `plan`
 abbrev pub plan_place : List (List ℕ) → Option ℕ
-plan_place [] = None
-plan_place (w ∷ ws) = cond (bytes_eq w (codes "plan")) (Some 0) (option_map (λ n. n + 1) (plan_place ws))
+plan_place words = position (λ w. bytes_eq w (codes "plan")) words
 
 -- an item and a plan for it
 pub record Planned : Type 0 where

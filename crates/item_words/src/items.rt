@@ -5,12 +5,10 @@ ghost use Rattle.words.specs.Readings.{number_below, first_word, word_in};
 ghost use Rattle.item_words.specs.Items.{fields, period_field, forced_fields, forced_word, price_field, price_in, row_word, lot_of, lot_word, header_words, row_words, lot_words, plan_place, item_words, plan_words, header_in, item_in, plan_in};
 ghost use Rattle.words.specs.Readings.{texts, Means};
 
+use crate::mistakes::{CommandError, Misuse};
 use item::{Header, Lot, Row};
 use std::alloc::Global;
-use words::{CommandError, Misuse, byte_word, count_word, first_word, large_word};
-
-// The periods that a forced set has bits for.
-const PERIODS: u32 = 32;
+use words::{first_word, number_word, read_each};
 
 // What `least` was asked for: an item.
 #[derive(Drop)]
@@ -26,16 +24,13 @@ pub struct PlanRequest {
     pub plan: Vec<Lot>,
 }
 
+// The period that a field writes: from `lowest` on, and with a bit in a forced set.
 fn period_field(lowest: u32, field: &str) -> Option<u32>
     ensures means { result ≡ period_field lowest field.now }
     ensures within { IfSome result (λ p. (lowest ≤ p) × (p < 32)) }
 {
-    let period = count_word(field)?;
-    if period >= lowest && period < PERIODS {
-        Some(period)
-    } else {
-        None
-    }
+    let period = number_word::<u32>(field)?;
+    (lowest <= period && period < u32::BITS).then_some(period)
 }
 
 // The set of the periods between the commas, which rise.
@@ -67,7 +62,7 @@ fn price_field(text: &str) -> Option<(u64, &str)>
     ensures { option_map price_in result ≡ price_field (fields text.now) }
 {
     let (field, rest) = text.split_once(',')?;
-    let price = large_word(field)?;
+    let price = number_word(field)?;
     Some((price, rest))
 }
 
@@ -78,7 +73,7 @@ fn row_word(word: &str) -> Option<Row>
     let (unit, rest) = price_field(rest)?;
     let (hold, rest) = price_field(rest)?;
     let (short, rest) = price_field(rest)?;
-    let demand = count_word(rest)?;
+    let demand = number_word(rest)?;
     Some(Row {
         setup,
         unit,
@@ -91,7 +86,7 @@ fn row_word(word: &str) -> Option<Row>
 fn lot_of(amount: &str, setup: bool) -> Option<Lot>
     ensures { result ≡ option_map (lot_of setup) (number_below 32 amount.now) }
 {
-    let amount = count_word(amount)?;
+    let amount = number_word(amount)?;
     Some(Lot { amount, setup })
 }
 
@@ -113,51 +108,25 @@ fn lot_word(word: &str) -> Option<Lot>
 fn row_words(heap: Global, words: &[String]) -> Result<Vec<Row>, CommandError>
     ensures { Means vec_items result (row_words (texts words.now)) }
 {
-    let mut rows = Vec::new(heap);
-    for (period, word) in words.iter().enumerate() {
-        let Some(row) = row_word(word.as_str()) else {
-            return Err(CommandError::Misused(Misuse::BadRow(period)));
-        };
-        rows.push(row)?;
-    }
-    Ok(rows)
+    read_each(heap, words, row_word, Misuse::BadRow)
 }
 
 fn lot_words(heap: Global, words: &[String]) -> Result<Vec<Lot>, CommandError>
     ensures { Means vec_items result (lot_words (texts words.now)) }
 {
-    let mut lots = Vec::new(heap);
-    for (period, word) in words.iter().enumerate() {
-        let Some(lot) = lot_word(word.as_str()) else {
-            return Err(CommandError::Misused(Misuse::BadLot(period)));
-        };
-        lots.push(lot)?;
-    }
-    Ok(lots)
+    read_each(heap, words, lot_word, Misuse::BadLot)
 }
 
 // Reads `RULE OPENING FORCED`, and answers the words after them too.
 fn header_words(words: &[String]) -> Result<(Header, &[String]), CommandError>
     ensures { Means header_in result (header_words (texts words.now)) }
 {
-    let Some((rule, words)) = first_word(words) else {
-        return Err(CommandError::Misused(Misuse::NoRule));
-    };
-    let Some(rule) = byte_word(rule) else {
-        return Err(CommandError::Misused(Misuse::BadRule));
-    };
-    let Some((opening, words)) = first_word(words) else {
-        return Err(CommandError::Misused(Misuse::NoOpening));
-    };
-    let Some(opening) = count_word(opening) else {
-        return Err(CommandError::Misused(Misuse::BadOpening));
-    };
-    let Some((forced, words)) = first_word(words) else {
-        return Err(CommandError::Misused(Misuse::NoForced));
-    };
-    let Some(forced) = forced_word(forced) else {
-        return Err(CommandError::Misused(Misuse::BadForced));
-    };
+    let (rule, words) = first_word(words).ok_or(Misuse::NoRule)?;
+    let rule = number_word(rule).ok_or(Misuse::BadRule)?;
+    let (opening, words) = first_word(words).ok_or(Misuse::NoOpening)?;
+    let opening = number_word(opening).ok_or(Misuse::BadOpening)?;
+    let (forced, words) = first_word(words).ok_or(Misuse::NoForced)?;
+    let forced = forced_word(forced).ok_or(Misuse::BadForced)?;
     let header = Header {
         rule,
         opening,
@@ -180,12 +149,7 @@ fn plan_place(words: &[String]) -> Option<usize>
     ensures means { result ≡ plan_place (texts words.now) }
     ensures within { IfSome result (λ n. n < length words.now) }
 {
-    for (place, word) in words.iter().enumerate() {
-        if word.as_str() == "plan" {
-            return Some(place);
-        }
-    }
-    None
+    words.iter().position(|word| word.as_str() == "plan")
 }
 
 // Reads `RULE OPENING FORCED ROW... plan LOT...`.
@@ -193,9 +157,7 @@ pub fn plan_request(heap: Global, words: &[String]) -> Result<PlanRequest, Comma
     ensures { Means plan_in result (plan_words (texts words.now)) }
 {
     let (header, words) = header_words(words)?;
-    let Some(place) = plan_place(words) else {
-        return Err(CommandError::Misused(Misuse::NoPlan));
-    };
+    let place = plan_place(words).ok_or(Misuse::NoPlan)?;
     let rows = row_words(heap, &words[..place])?;
     let plan = lot_words(heap, &words[place + 1..])?;
     let item = ItemRequest { header, rows };

@@ -2,5 +2,7 @@
 #![tactic(auto)]
 
 mod items;
+mod mistakes;
 
 pub use items::{ItemRequest, PlanRequest, item_request, plan_request};
+pub use mistakes::{CommandError, Misuse};

@@ -8,11 +8,7 @@ use std::{env, io};
 
 // The words after the program's name.
 fn words_given(rt: &HostRuntime) -> io::Result<Vec<String>> {
-    let mut words = Vec::new(rt.alloc());
-    for word in env::args(rt)?.skip(1) {
-        words.push(word)?;
-    }
-    Ok(words)
+    Ok(env::args(rt)?.skip(1).collect(rt.alloc())?)
 }
 
 // Says in one line why nothing was done, and ends with status 1.

@@ -6,19 +6,12 @@ use crate::priced::PricedTime;
 use std::test::Fail;
 
 fn scale(k: u32) -> Result<Scale, Fail> {
-    let Some(scale) = Scale::new(k) else {
-        return Err(Fail::new("no scale"));
-    };
-    Ok(scale)
+    Scale::new(k).ok_or_else(|| Fail::new("no scale"))
 }
 
 fn priced_time(price: u32, minutes: u32) -> Result<PricedTime, Fail> {
-    let Some(price) = CapacityPrice::new(price) else {
-        return Err(Fail::new("no price"));
-    };
-    let Some(minutes) = Minutes::new(minutes) else {
-        return Err(Fail::new("no minutes"));
-    };
+    let price = CapacityPrice::new(price).ok_or_else(|| Fail::new("no price"))?;
+    let minutes = Minutes::new(minutes).ok_or_else(|| Fail::new("no minutes"))?;
     Ok(PricedTime { price, minutes })
 }
 
@@ -74,10 +67,7 @@ fn scales_up(rt: HostRuntime) -> Result<(), Fail> {
         (-9223372036854776, 1000, None),
     ];
     for (units, k, kths) in cases {
-        let expected = match kths {
-            Some(kths) => Ok(ScaledMoney::new(kths)),
-            None => Err(OutOfRange),
-        };
+        let expected = kths.map(|kths| ScaledMoney::new(kths)).ok_or(OutOfRange);
         assert_eq!(rt; Money::new(units).scaled(scale(k)?), expected);
     }
     Ok(())

@@ -1,5 +1,5 @@
-use base_rules::BaseRule;
-use item::{Header, ItemRule, Lot, Refusal, Row, Verdict, item_least, item_verdict};
+use base_rules::{BaseRule, Cause, Kind, UnknownCause};
+use item::{Fault, Header, Item, ItemRule, Lot, Refusal, Row, Verdict};
 
 const BASE: Header = Header {
     rule: 0,
@@ -38,23 +38,28 @@ fn lot(amount: u32) -> Lot {
     }
 }
 
+fn base_item(rows: &[Row]) -> Item<'_> {
+    Item { header: BASE, rows }
+}
+
+// The cause is a number here too, as a fault has it.
 fn fault(cause: u8, period: u8) -> Result<Verdict, Refusal> {
-    Ok(Verdict::Fault {
+    Ok(Err(Fault {
         cause,
         period,
         depth: 0,
-    })
+    }))
 }
 
 fn cost(cost: u64) -> Result<Verdict, Refusal> {
-    Ok(Verdict::Cost(cost))
+    Ok(Ok(cost))
 }
 
 #[test]
 fn three_periods_cost_least_in_one_lot(rt: HostRuntime) {
     let rows = [row(20), row(30), row(10)];
-    let mut rule = BaseRule::plain();
-    assert_eq!(rt; item_least(&mut rule, BASE, &rows), Ok(100));
+    let mut rule = BaseRule::new(Kind::Plain);
+    assert_eq!(rt; base_item(&rows).least(&mut rule), Ok(100));
     assert_eq!(rt; rule.weigh(&[lot(60), NONE, NONE]), cost(100));
     assert_eq!(rt; rule.weigh(&[lot(20), lot(40), NONE]), cost(110));
     assert_eq!(rt; rule.weigh(&[lot(60), lot(0), NONE]), cost(150));
@@ -65,10 +70,10 @@ fn three_periods_cost_least_in_one_lot(rt: HostRuntime) {
 #[test]
 fn backlog_may_wait_for_a_lot(rt: HostRuntime) {
     let rows = [row(5), row(30)];
-    let mut plain = BaseRule::plain();
-    let mut backlog = BaseRule::backlog();
-    assert_eq!(rt; item_least(&mut plain, BASE, &rows), Ok(80));
-    assert_eq!(rt; item_least(&mut backlog, BASE, &rows), Ok(60));
+    let mut plain = BaseRule::new(Kind::Plain);
+    let mut backlog = BaseRule::new(Kind::Backlog);
+    assert_eq!(rt; base_item(&rows).least(&mut plain), Ok(80));
+    assert_eq!(rt; base_item(&rows).least(&mut backlog), Ok(60));
     assert_eq!(rt; backlog.weigh(&[NONE, lot(35)]), cost(60));
     assert_eq!(rt; plain.weigh(&[NONE, lot(35)]), fault(2, 0));
     assert_eq!(rt; backlog.weigh(&[NONE, lot(34)]), fault(3, 1));
@@ -82,9 +87,9 @@ fn a_lot_without_a_setup_is_the_first_fault_of_its_period(rt: HostRuntime) {
         amount: 1,
         setup: false,
     };
-    let mut rule = BaseRule::plain();
+    let mut rule = BaseRule::new(Kind::Plain);
     assert_eq!(rt;
-        item_verdict(&mut rule, BASE, &rows, &[unset, NONE]),
+        base_item(&rows).verdict(&mut rule, &[unset, NONE]),
         fault(1, 0)
     );
     assert_eq!(rt; rule.weigh(&[lot(5), unset]), fault(1, 1));
@@ -93,24 +98,24 @@ fn a_lot_without_a_setup_is_the_first_fault_of_its_period(rt: HostRuntime) {
 
 #[test]
 fn no_rows_cost_nothing(rt: HostRuntime) {
-    let mut rule = BaseRule::backlog();
-    assert_eq!(rt; item_least(&mut rule, BASE, &[]), Ok(0));
+    let mut rule = BaseRule::new(Kind::Backlog);
+    assert_eq!(rt; base_item(&[]).least(&mut rule), Ok(0));
     assert_eq!(rt; rule.weigh(&[]), cost(0));
 }
 
 #[test]
 fn a_demand_of_zero_is_skipped_free(rt: HostRuntime) {
-    let mut rule = BaseRule::plain();
+    let mut rule = BaseRule::new(Kind::Plain);
     assert_eq!(rt;
-        item_least(&mut rule, BASE, &[row(0), row(7), row(0)]),
+        base_item(&[row(0), row(7), row(0)]).least(&mut rule),
         Ok(50)
     );
-    assert_eq!(rt; item_least(&mut rule, BASE, &[row(0), row(0)]), Ok(0));
+    assert_eq!(rt; base_item(&[row(0), row(0)]).least(&mut rule), Ok(0));
 }
 
 #[test]
 fn before_an_opening_each_call_is_refused_for_it(rt: HostRuntime) {
-    let mut rule = BaseRule::plain();
+    let mut rule = BaseRule::new(Kind::Plain);
     assert_eq!(rt; rule.tell(row(100_001)), Err(Refusal::NotOpened));
     assert_eq!(rt; rule.weigh(&[NONE]), Err(Refusal::NotOpened));
     assert_eq!(rt; rule.least(), Err(Refusal::NotOpened));
@@ -118,8 +123,8 @@ fn before_an_opening_each_call_is_refused_for_it(rt: HostRuntime) {
 
 #[test]
 fn an_unknown_header_leaves_what_is_held(rt: HostRuntime) {
-    let mut rule = BaseRule::plain();
-    assert_eq!(rt; item_least(&mut rule, BASE, &[row(20)]), Ok(50));
+    let mut rule = BaseRule::new(Kind::Plain);
+    assert_eq!(rt; base_item(&[row(20)]).least(&mut rule), Ok(50));
     let unknown = Err(Refusal::HeaderNotKnown);
     assert_eq!(rt;
         rule.open(Header {
@@ -174,7 +179,7 @@ fn each_limit_of_a_row_is_its_last_number(rt: HostRuntime) {
             ..LARGEST
         },
     ];
-    let mut rule = BaseRule::plain();
+    let mut rule = BaseRule::new(Kind::Plain);
     assert_eq!(rt; rule.open(BASE), Ok(()));
     for row in above {
         assert_eq!(rt; rule.tell(row), Err(Refusal::RowTooLarge));
@@ -185,7 +190,7 @@ fn each_limit_of_a_row_is_its_last_number(rt: HostRuntime) {
 // A period's own lot costs 20,020,000,000,000, and to hold a demand for one period 10,000,000,000,000.
 #[test]
 fn a_rule_is_told_32_rows(rt: HostRuntime) {
-    let mut rule = BaseRule::plain();
+    let mut rule = BaseRule::new(Kind::Plain);
     assert_eq!(rt; rule.open(BASE), Ok(()));
     for _ in 0..32 {
         assert_eq!(rt; rule.tell(LARGEST), Ok(()));
@@ -203,7 +208,7 @@ fn a_rule_is_told_32_rows(rt: HostRuntime) {
 
 #[test]
 fn a_plan_fits_before_it_is_weighed(rt: HostRuntime) {
-    let mut rule = BaseRule::plain();
+    let mut rule = BaseRule::new(Kind::Plain);
     let dear = Row {
         setup: 0,
         unit: 0,
@@ -213,7 +218,7 @@ fn a_plan_fits_before_it_is_weighed(rt: HostRuntime) {
     };
     let misfit = Err(Refusal::PlanDoesNotFit);
     assert_eq!(rt;
-        item_verdict(&mut rule, BASE, &[dear; 32], &[lot(3_200_000); 32]),
+        base_item(&[dear; 32]).verdict(&mut rule, &[lot(3_200_000); 32]),
         Err(Refusal::CostTooHigh)
     );
     assert_eq!(rt; rule.weigh(&[lot(3_200_000); 31]), misfit);
@@ -235,4 +240,34 @@ fn refusals_have_their_numbers(rt: HostRuntime) {
     for (refusal, number) in cases {
         assert_eq!(rt; refusal.number(), number);
     }
+}
+
+#[test]
+fn causes_have_their_numbers_and_words(rt: HostRuntime) {
+    let cases = [
+        (1, Cause::NoSetup, "an amount without a setup"),
+        (2, Cause::BelowZero, "stock below zero"),
+        (
+            3,
+            Cause::BelowZeroAtTheEnd,
+            "stock below zero after the last row",
+        ),
+    ];
+    for (number, cause, words) in cases {
+        assert_eq!(rt; Cause::try_from(number), Ok(cause));
+        assert_eq!(rt; u8::from(cause), number);
+        assert_eq!(rt; format!(in rt.alloc(); "{cause}").as_deref(), Ok(words));
+    }
+}
+
+#[test]
+fn other_numbers_are_no_cause(rt: HostRuntime) {
+    for number in [0, 4, 5, 255] {
+        assert_eq!(rt; Cause::try_from(number), Err(UnknownCause(number)));
+    }
+    let unknown = UnknownCause(4);
+    assert_eq!(rt;
+        format!(in rt.alloc(); "{unknown}").as_deref(),
+        Ok("4 is no cause of a fault")
+    );
 }

@@ -1,3 +1,4 @@
+pub mod Commas
 pub mod Lists
-pub mod Numbers
 pub mod Texts
+pub mod InTurn

@@ -1,2 +1,4 @@
 pub mod Readings
 pub mod Mistakes
+pub mod Turns
+pub mod Parsed

@@ -6,7 +6,6 @@ use Rattle.std.specs.Str.Parse.{without_leading_plus, digits_value}
 use Rattle.std.specs.Str.{all_ascii_digits}
 use Rattle.words.specs.declared.errors.CommandError.{CommandError}
 use Rattle.words.specs.declared.errors.CommandError.TheVariants.{Memory, Misused}
-use Rattle.words.specs.declared.errors.Misuse.{Misuse}
 
 -- the bytes of each word
 abbrev pub texts : List (String Global) → List (List ℕ)
@@ -39,7 +38,7 @@ abbrev pub word_in : Bor (List ℕ) × Bor (List (String Global)) → List ℕ �
 word_in p = (p.0.now, texts p.1.now)
 
 -- r is what was meant, by what `held` reads of it, unless memory was short
-abbrev pub Means : {X Y : Type 0} → (X → Y) → Result X CommandError → Result Y Misuse → Type 0
+abbrev pub Means : {X Y M : Type 0} → (X → Y) → Result X (CommandError M) → Result Y M → Type 0
 Means held (Ok x) meant = meant ≡ Ok (held x)
 Means held (Err Memory) meant = Unit {0}
 Means held (Err (Misused m)) meant = meant ≡ Err m

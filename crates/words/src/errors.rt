@@ -1,111 +1,60 @@
-// What a command refuses.
-ghost use Rattle.std.specs.Prelude.{◌≡◌, Some};
-ghost use Rattle.words.specs.declared.errors.CommandError.TheVariants.{Memory};
-ghost use Rattle.words.specs.Mistakes.{misuse_text, error_text};
+// Why a command was not carried out.
+ghost use Rattle.std.specs.Prelude.{◌≡◌, ℕ, List};
+ghost use Rattle.words.specs.declared.errors.CommandError.TheVariants.{Memory, Misused};
+ghost use Rattle.words.specs.Mistakes.{error_text};
 
 use std::alloc::{AllocError, AllocFailed};
 use std::fmt;
 
-// What is wrong with the words of a command.
-#[derive(Clone, Copy, Debug, PartialEq, Eq)]
-pub enum Misuse {
-    UnknownVerb,
-    NoScale,
-    BadScale,
-    NoPrice,
-    TooManyPrices,
-    BadPrice(usize),
-    NoRule,
-    BadRule,
-    NoOpening,
-    BadOpening,
-    NoForced,
-    BadForced,
-    BadRow(usize),
-    NoPlan,
-    BadLot(usize),
+// What may be wrong with the words of a command.
+pub trait Mistake: fmt::Display {
+    // Where the command's usage is found.
+    ghost usage: { List ℕ };
+
+    fn usage(&self) -> &'static str
+        ensures { result.now ≡ usage };
 }
 
-// Why a command was not carried out.
+// Want of memory, or a mistake in the command's words.
 #[derive(Clone, Copy, Debug, PartialEq, Eq)]
-pub enum CommandError {
+pub enum CommandError<M> {
     Memory,
-    Misused(Misuse),
+    Misused(M),
 }
 
-impl From<AllocError> for CommandError {
+impl<M: Drop> From<AllocError> for CommandError<M> {
     ghost from_gives = { λ _ r. r ≡ Memory };
 
-    fn from(_e: AllocError) -> CommandError {
+    fn from(_e: AllocError) -> CommandError<M> {
         CommandError::Memory
     }
 }
 
-impl<T: Drop> From<AllocFailed<T>> for CommandError {
+impl<M: Drop, T: Drop> From<AllocFailed<T>> for CommandError<M> {
     ghost from_gives = { λ _ r. r ≡ Memory };
 
-    fn from(_e: AllocFailed<T>) -> CommandError {
+    fn from(_e: AllocFailed<T>) -> CommandError<M> {
         CommandError::Memory
     }
 }
 
-impl fmt::Display for Misuse {
-    ghost output = { λ m. Some (misuse_text m) };
+impl<M: Mistake> From<M> for CommandError<M> {
+    ghost from_gives = { λ m r. r ≡ Misused m };
 
-    fn fmt<W: fmt::Write>(&self, f: &mut fmt::Formatter<W>) -> fmt::Result {
-        match *self {
-            Misuse::UnknownVerb => write!(f, "the verb is not known"),
-            Misuse::NoScale => write!(f, "the scale is missing"),
-            Misuse::BadScale => write!(f, "the scale is not a whole number from 1 to 1000"),
-            Misuse::NoPrice => write!(f, "the prices are missing"),
-            Misuse::TooManyPrices => write!(f, "there are more than 32 prices"),
-            Misuse::BadPrice(period) => {
-                write!(
-                    f,
-                    "the price of period {period} is not a whole number from 0 to 100000"
-                )
-            }
-            Misuse::NoRule => write!(f, "the rule is missing"),
-            Misuse::BadRule => write!(f, "the rule is not a whole number from 0 to 255"),
-            Misuse::NoOpening => write!(f, "the opening stock is missing"),
-            Misuse::BadOpening => {
-                write!(
-                    f,
-                    "the opening stock is not a whole number from 0 to 4294967295"
-                )
-            }
-            Misuse::NoForced => write!(f, "the forced periods are missing"),
-            Misuse::BadForced => {
-                write!(
-                    f,
-                    "the forced periods are neither - nor periods from 0 to 31, rising and joined by commas"
-                )
-            }
-            Misuse::BadRow(period) => {
-                write!(
-                    f,
-                    "the row of period {period} is not five whole numbers joined by commas"
-                )
-            }
-            Misuse::NoPlan => write!(f, "the word plan is missing"),
-            Misuse::BadLot(period) => {
-                write!(
-                    f,
-                    "the lot of period {period} is neither - nor an amount, with or without ! behind it"
-                )
-            }
-        }
+    fn from(misuse: M) -> CommandError<M> {
+        CommandError::Misused(misuse)
     }
 }
 
-impl fmt::Display for CommandError {
-    ghost output = { λ e. Some (error_text e) };
+impl<M: Mistake> fmt::Display for CommandError<M> {
+    ghost output = { error_text M.output M.usage };
 
     fn fmt<W: fmt::Write>(&self, f: &mut fmt::Formatter<W>) -> fmt::Result {
-        match *self {
+        match self {
             CommandError::Memory => write!(f, "there is not enough memory"),
-            CommandError::Misused(misuse) => {
-                write!(f, "{misuse}; run lotaudit alone for its usage")
+            CommandError::Misused(mistake) => {
+                let usage = mistake.usage();
+                write!(f, "{mistake}; {usage}")
             }
         }
     }

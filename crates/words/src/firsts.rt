@@ -7,8 +7,6 @@ ghost use Rattle.words.specs.Readings.{texts, first_word, word_in};
 pub fn first_word(words: &[String]) -> Option<(&str, &[String])>
     ensures { option_map word_in result ≡ first_word (texts words.now) }
 {
-    let [word, rest @ ..] = words else {
-        return None;
-    };
+    let (word, rest) = words.split_first()?;
     Some((word.as_str(), rest))
 }

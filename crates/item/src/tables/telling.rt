@@ -1,77 +1,65 @@
 // Opening a header and telling rows.
-ghost use Rattle.std.specs.Prelude.{◌≡◌, [], Some, nat_lt};
-ghost use Rattle.item.specs.Calls.{header_answer, tell_answer, held_after_tell};
-ghost use Rattle.item.specs.Limits.{most_rows};
+ghost use Rattle.std.specs.Prelude.{◌≡◌, []};
+ghost use Rattle.item.specs.Calls.{tell_answer, held_after_tell};
 ghost use Rattle.item.specs.Meanings.{unopened, opened};
-ghost use Rattle.item.specs.Tables.{rows_in, held_in};
+ghost use Rattle.item.specs.Tables.{rows_of, held_of, held_in, referred, opened_answer};
 
-use crate::limits::MOST_ROWS;
 use crate::records::{Header, Refusal, Row};
-use crate::tables::RowTable;
+use crate::tables::{Opened, RowTable};
+use arrayvec::ArrayVec;
 
 impl RowTable {
     pub fn new() -> RowTable
         ensures { held_in result ≡ unopened }
     {
-        let blank = Row {
-            setup: 0,
-            unit: 0,
-            hold: 0,
-            short: 0,
-            demand: 0,
-        };
-        RowTable {
-            opened: None,
-            count: 0,
-            rows: [blank; 32],
-        }
+        RowTable { opened: None }
     }
 
     // Holds the header with no rows, whatever was held.
     pub fn open(&mut self, header: Header)
-        ensures opens { self.new.opened ≡ Some header }
-        ensures empties { rows_in self.new ≡ [] }
+        ensures { held_in self.new ≡ opened header [] }
     {
-        self.opened = Some(header);
-        self.count = 0;
-    }
-
-    // Whether one row more may be told.
-    fn has_room(&self) -> bool
-        ensures { result ≡ nat_lt self.now.count most_rows }
-    {
-        self.count < MOST_ROWS
+        let rows = ArrayVec::new();
+        self.opened = Some(Opened { header, rows });
     }
 
     // Adds a row, unless it is refused.
     pub fn tell(&mut self, row: Row) -> Result<(), Refusal>
-        ensures stays { self.new.opened ≡ self.old.opened }
         ensures says { result ≡ tell_answer row (held_in self.old) }
         ensures holds { held_in self.new ≡ held_after_tell row (held_in self.old) }
     {
-        self.header()?;
+        self.opened.as_mut().ok_or(Refusal::NotOpened)?.tell(row)
+    }
+
+    // What was opened, or the refusal of a call before an opening.
+    pub fn opened(&self) -> Result<&Opened, Refusal>
+        ensures { referred result ≡ opened_answer self.now }
+    {
+        self.opened.as_ref().ok_or(Refusal::NotOpened)
+    }
+}
+
+impl Opened {
+    fn tell(&mut self, row: Row) -> Result<(), Refusal>
+        ensures says { result ≡ tell_answer row (held_of self.old) }
+        ensures holds { held_of self.new ≡ held_after_tell row (held_of self.old) }
+    {
         if !row.is_within_limits() {
             return Err(Refusal::RowTooLarge);
         }
-        if !self.has_room() {
-            return Err(Refusal::TooManyRows);
-        }
-        self.rows[self.count] = row;
-        self.count += 1;
-        Ok(())
+        self.rows.try_push(row).map_err(|_| Refusal::TooManyRows)
     }
 
-    // The header opened, or the refusal of a call before an opening.
-    pub fn header(&self) -> Result<Header, Refusal>
-        ensures { result ≡ header_answer (held_in self.now) }
+    pub fn header(&self) -> Header
+        ensures { result ≡ self.now.header }
     {
-        self.opened.ok_or(Refusal::NotOpened)
+        self.header
     }
 
     // The rows told since.
     pub fn rows(&self) -> &[Row]
-        ensures { result.now ≡ rows_in self.now }
+        ensures { result.now ≡ rows_of self.now }
     {
-        &self.rows[0..self.count]
+        self.rows.as_slice()
     }
 }

@@ -1,24 +1,18 @@
-use Rattle.std.proofs.Common.{◌≡◌, true, false, eqb, length, sym, ap, ◌∙◌}
-use Rattle.std.proofs.lemmas.List.{drop_all, drop_more}
-use Rattle.std.proofs.lemmas.Bool.{and_right, eq-eqb}
-use Rattle.item.specs.Least.{lot}
+use Rattle.std.proofs.Common.{◌≡◌, ◌&&◌, List, [], ◌∷◌, nat_le, refl, ap, rules, tests, arith}
+use Rattle.std.specs.List.{list_all}
+use Rattle.std.proofs.lemmas.Iterator.{YieldsList-from_slice}
+use Rattle.std.proofs.lemmas.Iterator.Search.{all_from_yields_List}
+use Rattle.std.proofs.lemmas.Bool.Decides.{nat_tests}
+use Rattle.item.specs.declared.records.Lot.{Lot}
 use Rattle.item.specs.Limits.{most_amount, amounts_up_to}
 use Rattle.item.proofs.limits.fits_rows.Goals as goal
 
-pub returns-then-not-is_within_limits : goal.returns-then-not-is_within_limits
-returns-then-not-is_within_limits c =
-    let p = c.args.plan.now in
-    let here = c.loop-lot.invariant ∙ ap (amounts_up_to most_amount) (drop_more p c.loop-lot.lot-index (lot 0 false) c.loop-lot-test.true) in
-    let f : amounts_up_to most_amount p ≡ false = rw (sym c.if-not-is_within_limits.ensures) at here in
-    sym (and_right (eqb (length p) c.args.count) (amounts_up_to most_amount p) f)
+amounts_as_all : (plan : List Lot) → list_all (λ (l : Lot). nat_le l.amount most_amount) plan ≡ amounts_up_to most_amount plan
+amounts_as_all [] = refl
+amounts_as_all (l ∷ ls) = ap (λ b. nat_le l.amount most_amount && b) (amounts_as_all ls)
 
-pub loop-lot-preserved : goal.loop-lot-preserved
-loop-lot-preserved c =
-    let here = c.loop-lot.invariant ∙ ap (amounts_up_to most_amount) (drop_more c.args.plan.now c.loop-lot.lot-index (lot 0 false) c.loop-lot-test.true) in
-    rw (sym c.if-not-is_within_limits.ensures) at here
-
-pub returns : goal.returns
-returns c =
-    let p = c.args.plan.now in
-    let e : amounts_up_to most_amount p ≡ true = rw (drop_all c.loop-lot.lot-index p c.loop-lot-test.false) at c.loop-lot.invariant in
-    sym (rw (eq-eqb _ _ c.if-plan-count.false, e))
+pub returns-then-plan-count : goal.returns-then-plan-count
+returns-then-plan-count c =
+    let all = all_from_yields_List (λ (l : Lot). nat_le l.amount most_amount) _ _ c.all.result c.all.ensures.ran (YieldsList-from_slice c.args.plan.now cc) (λ x b q k. search (rules, tests)) in
+    let same = amounts_as_all c.args.plan.now in
+    grind (arith, nat_tests)

@@ -17,11 +17,6 @@ sum_cap : (f : Row → ℕ) (m : ℕ) (rs : List Row) → ((k : ℕ) → k < len
 sum_cap f m [] h = omega arith
 sum_cap f m (r ∷ rs) h = let c = sum_by-cons f r rs in let ih = sum_cap f m rs (λ k l. h (suc k) (omega arith)) in let i = h 0 (omega arith) in omega arith
 
-due_more : (rs : List Row) (a t : ℕ) → a < length rs → a < t → due rs (a + 1) t + (row_at rs a).demand ≡ due rs a t
-due_more rs a t i h =
-    let f : Row → ℕ = λ r. r.demand in
-    omega (arith, sum_by_more f rs a blank i, sum_up f rs (a + 1) t (omega arith))
-
 -- one row further on
 pub due_next : (rs : List Row) (a t : ℕ) → t < length rs → a ≤ t → due rs a (t + 1) ≡ due rs a t + (row_at rs t).demand
 due_next rs a t i h =
@@ -44,37 +39,22 @@ due_cap p a t =
     let f : Row → ℕ = λ r. r.demand in
     omega (arith, sum_by-take-le f rs t, sum_cap f 100000 rs (λ k lt. ((told_in p).1 k lt).demand), mul-le-mul_right 100000 p.few)
 
-holding_cap : (p : Problem) (s t : ℕ) → holding p.rows.now s t ≤ 3200000000
+pub holding_cap : (p : Problem) (s t : ℕ) → holding p.rows.now s t ≤ 3200000000
 holding_cap p s t =
     let rs = p.rows.now in
     let f : Row → ℕ = λ r. r.hold in
     omega (arith, sum_by-take-le f rs t, sum_cap f 100000000 rs (λ k lt. ((told_in p).1 k lt).hold), mul-le-mul_right 100000000 p.few)
 
--- n is the sum of the demands of periods a up to t
-pub record Due (p : Problem) (a t n : ℕ) : Type 0 where
-  pub is : n ≡ due p.rows.now a t
+-- n is the sum of f over rows k up to t
+pub record Left (f : Row → ℕ) (p : Problem) (k t n : ℕ) : Type 0 where
+  pub is : n ≡ sum_by f (take t p.rows.now) - sum_by f (take k p.rows.now)
 
--- n is the sum of the hold prices of periods s up to t
-pub record Holding (p : Problem) (s t n : ℕ) : Type 0 where
-  pub is : n ≡ holding p.rows.now s t
-
--- one row further back
-pub due_back : {p : Problem} {a t n : ℕ} → Due p (a + 1) (t + 1) n → a ≤ t → t < length p.rows.now → (n + (row_at p.rows.now a).demand ≡ due p.rows.now a (t + 1)) × (n + (row_at p.rows.now a).demand ≤ 3200000)
-due_back {p} {a} {t} d le row =
-    let e = d.is in
-    let more = due_more p.rows.now a (t + 1) (omega arith) (omega arith) in
-    (omega arith, omega (arith, due_cap p a (t + 1)))
-
-pub holding_back : {p : Problem} {s t n : ℕ} → Holding p s t n → 0 < s → s ≤ t → t < length p.rows.now → Holding p (s - 1) t (n + (row_at p.rows.now (s - 1)).hold) × (n + (row_at p.rows.now (s - 1)).hold ≤ 3200000000)
-holding_back {p} {s} {t} {n} h some le row =
-    let rs = p.rows.now in
-    let f : Row → ℕ = λ r. r.hold in
-    let e = h.is in
-    let back : s - 1 + 1 ≡ s = omega arith in
-    let more = rw back at (sum_by_more f rs (s - 1) blank (omega arith)) in
-    let up = sum_up f rs s t le in
-    let i : n + (row_at rs (s - 1)).hold ≡ holding rs (s - 1) t = omega arith in
-    (record { is = i }, omega (arith, holding_cap p (s - 1) t))
+-- one row fewer
+pub less : (f : Row → ℕ) (p : Problem) {k t n : ℕ} → Left f p k t n → k < t → k < length p.rows.now → (f (row_at p.rows.now k) ≤ n) × Left f p (k + 1) t (n - f (row_at p.rows.now k))
+less f p {k} {t} {n} l lt i =
+    let more = sum_by_more f p.rows.now k blank i in
+    let up = sum_up f p.rows.now (k + 1) t (omega arith) in
+    (omega (arith, l.is), record { is = omega (arith, l.is) })
 
 pub keep_cap : (p : Problem) (s t n : ℕ) → s < length p.rows.now → t < length p.rows.now → n ≤ 3200000000 → ((row_at p.rows.now s).unit + n) * (row_at p.rows.now t).demand ≤ 340000000000000
 keep_cap p s t n i j le =

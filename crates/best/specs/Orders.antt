@@ -1,5 +1,5 @@
 -- The better of two entries under an order, and the order of candidates.
-use Rattle.std.specs.Prelude.{◌≡◌, Bool, false, cond, ◌&&◌, ◌||◌, Some, None, Option, ◌==◌, nat_lt}
+use Rattle.std.specs.Prelude.{◌≡◌, Bool, true, false, cond, ◌&&◌, ◌||◌, Some, None, Option, ◌==◌, nat_lt}
 use Rattle.std.specs.Ordering.{is_lt}
 use Rattle.std.specs.declared.cmp.Ordering.{Ordering}
 use Rattle.best.specs.declared.entries.Candidate.{Candidate}
@@ -7,6 +7,12 @@ use Rattle.best.specs.declared.entries.Candidate.{Candidate}
 -- x stands strictly before y in an order
 abbrev pub before : {E : Type 0} → (E → E → Ordering) → E → E → Bool
 before order x y = is_lt (order x y)
+
+-- what an order shows: no two entries stand before each other, what stands before an entry stands before all that come after it, and only the same entries tie
+pub record Ranks {E : Type 0} (first same : E → E → Bool) : Type 0 where
+  pub one_way : (x y : E) → first x y ≡ true → first y x ≡ false
+  pub through : (x y z : E) → first x y ≡ true → first y z ≡ true → first x z ≡ true
+  pub total : (x y : E) → first x y ≡ false → first y x ≡ false → same x y ≡ true
 
 -- the better of the older entry, if there is one, and e; at a tie the older one
 abbrev pub better : {E : Type 0} → (E → E → Bool) → Option E → E → E

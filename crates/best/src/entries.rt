@@ -10,12 +10,13 @@ use std::cmp::Ordering;
 #[derive(Clone, Copy, Debug, PartialEq, Eq, PartialOrd, Ord)]
 pub struct Cost(pub u64);
 
-// A bound from below: the higher is the better. Its order is written out, since a derive would put the lower first.
+// A bound from below: the higher is the better. Its order is written out, since a derive would put the lower first, and a
+// `Reverse` inside would stand in each bound that a caller makes or reads.
 #[derive(Clone, Copy, Debug, PartialEq, Eq)]
 pub struct Bound(pub i64);
 
 // A way to meet a demand in a lot-sizing programme: its cost, and of equal costs the period of making.
-#[derive(Clone, Copy, Debug, PartialEq, Eq, PartialOrd, Ord)]
+#[derive(Clone, Copy, Debug, Default, PartialEq, Eq, PartialOrd, Ord)]
 pub struct Candidate {
     pub cost: u64,
     pub period: u8,

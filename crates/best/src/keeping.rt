@@ -1,6 +1,6 @@
 // The keeper of the best entry offered to it.
 ghost use Rattle.std.specs.Prelude.{◌≡◌, Some, None};
-ghost use Rattle.best.specs.Orders.{before, better, NoneBefore};
+ghost use Rattle.best.specs.Orders.{before, better, NoneBefore, Ranks};
 
 #[derive(Drop)]
 pub struct Best<E> {
@@ -10,7 +10,8 @@ pub struct Best<E> {
 impl<E: Ord + Copy> Best<E> {
     // It keeps none yet.
     pub fn new() -> Best<E>
-        ensures { result.kept ≡ None }
+        ensures empty { result.kept ≡ None }
+        ensures order { Ranks (before E.Ord.cmp) E.PartialEq.eq }
     {
         Best { kept: None }
     }

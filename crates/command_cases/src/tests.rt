@@ -4,7 +4,8 @@ use std::alloc::{AllocError, Global};
 use std::process::Abort;
 use std::test::Fail;
 
-// The program's answer to a line of words: the text, or what is wrong.
+// The program's answer to a line of words: the text, or what is wrong. (The crate of an item's cases has the same two helpers
+// for another function; one of each for both would be a crate for a few lines.)
 fn answer(heap: Global, line: &str) -> Result<String, AllocError> {
     let words: Vec<String> = line
         .split_whitespace()

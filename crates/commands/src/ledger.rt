@@ -84,7 +84,7 @@ fn post(
     ensures balance { account.new.balance ≡ balanced account.old.balance (posted posting account.old.balance.count (worth time)) }
     ensures cause { OnErr result (Beyond posting (posted posting account.old.balance.count (worth time))) }
 {
-    // A match and no closure: the posting is a value, since its entry has it too.
+    // A `match` and no closure, since the entry has the posting as a value too.
     let amount = match posting {
         Posting::Charge => account.charge(time)?,
         Posting::HandBack => account.hand_back(time)?,

@@ -1,5 +1,5 @@
 // What is wrong with the words of a command.
-ghost use Rattle.std.specs.Prelude.{◌≡◌, Some};
+ghost use Rattle.std.specs.Prelude.{◌≡◌, Some, refl};
 ghost use Rattle.commands.specs.Mistakes.{misuse_text, usage_line};
 
 use std::fmt;
@@ -19,6 +19,10 @@ pub enum Misuse {
 pub type CommandError = words::CommandError<Misuse>;
 
 impl Mistake for Misuse {
+    ghost text = { misuse_text };
+
+    ghost prints = { λ m. refl };
+
     ghost usage = { usage_line };
 
     fn usage(&self) -> &'static str {

@@ -25,7 +25,7 @@ pub struct MinuteRequest {
 fn within_word<const LEAST: u32, const MOST: u32>(word: &str) -> Option<Within<LEAST, MOST>>
     ensures { option_map (λ w. w.number) result ≡ limited (within LEAST MOST) (number word.now) }
 {
-    Within::new(number_word(word)?)
+    Within::checked(number_word(word)?)
 }
 
 // One minute at the price that a word writes.

@@ -3,7 +3,7 @@
 // What a rule is opened with.
 #[derive(Clone, Copy, Debug, PartialEq, Eq)]
 pub struct Header {
-    // The rule number.
+    // The rule number. It is no enum: which numbers there are is for each rule to say.
     pub rule: u8,
     // The stock at hand before the first period.
     pub opening: u32,
@@ -29,7 +29,8 @@ pub struct Lot {
     pub setup: bool,
 }
 
-// Why a plan is not admitted. The cause is a number and no enum, since each rule may have causes of its own.
+// Why a plan is not admitted. The cause is a number and no enum, since each rule may have causes of its own, and a rule that
+// holds another passes on the faults of that one too.
 #[derive(Clone, Copy, Debug, PartialEq, Eq)]
 pub struct Fault {
     pub cause: u8,

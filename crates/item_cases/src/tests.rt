@@ -11,8 +11,8 @@ fn words_of(heap: Global, line: &str) -> Result<Vec<String>, AllocError> {
         .try_collect(heap)
 }
 
-// The answer to a line of words: the text, or what is wrong. The crate of the program's cases has the same for another
-// function; one for both would be a crate for ten lines.
+// The answer to a line of words: the text, or what is wrong. (The crate of the program's cases has this and `check_wrong` for
+// another function; one of each for both would be a crate for a few lines.)
 pub fn answer(heap: Global, line: &str) -> Result<String, AllocError> {
     let words = words_of(heap, line)?;
     match run_item(heap, words.as_slice()) {

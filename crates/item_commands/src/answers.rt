@@ -8,7 +8,7 @@ use item::{Fault, Item, ItemRule, Lot, Refusal};
 use std::alloc::{AllocError, Global};
 use std::fmt;
 
-// A fault, as its line has it.
+// A fault, as its line has it. (A type of this crate, since the words for a cause come from the base rules.)
 #[derive(Clone, Copy)]
 struct Faulted(Fault);
 

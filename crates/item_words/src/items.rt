@@ -10,7 +10,7 @@ use item::{Header, Lot, Row};
 use std::alloc::Global;
 use words::{first_word, number_word, read_each};
 
-// What `least` was asked for: an item.
+// What `least` was asked for: an item. It owns its rows, which an `Item` borrows.
 #[derive(Drop)]
 pub struct ItemRequest {
     pub header: Header,
@@ -83,6 +83,7 @@ fn row_word(word: &str) -> Option<Row>
     })
 }
 
+// A lot of this amount, with a setup beside it or without: a flag, as a lot has it.
 fn lot_of(amount: &str, setup: bool) -> Option<Lot>
     ensures { result ≡ option_map (lot_of setup) (number_below 32 amount.now) }
 {

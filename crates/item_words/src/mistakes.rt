@@ -1,5 +1,5 @@
 // What is wrong with the words of an item.
-ghost use Rattle.std.specs.Prelude.{◌≡◌, Some};
+ghost use Rattle.std.specs.Prelude.{◌≡◌, Some, refl};
 ghost use Rattle.item_words.specs.Mistakes.{misuse_text, usage_hint};
 
 use std::fmt;
@@ -23,6 +23,10 @@ pub enum Misuse {
 pub type CommandError = words::CommandError<Misuse>;
 
 impl Mistake for Misuse {
+    ghost text = { misuse_text };
+
+    ghost prints = { λ m. refl };
+
     ghost usage = { usage_hint };
 
     fn usage(&self) -> &'static str {

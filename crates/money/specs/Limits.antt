@@ -1,4 +1,4 @@
--- The limits of a scale and of a capacity price.
+-- The limits of a scale, of a capacity price and of a period's minutes.
 use Rattle.std.specs.Prelude.{ℕ, cond, ◌&&◌, Some, None, Option, nat_le}
 
 -- a number, if it is from `least` to `most`
@@ -12,3 +12,7 @@ scale_of = within 1 1000
 -- a capacity price is at most 100,000 K-ths a minute
 abbrev pub price_of : ℕ → Option ℕ
 price_of = within 0 100000
+
+-- a period has at most 1,000,000,000 minutes
+abbrev pub minutes_of : ℕ → Option ℕ
+minutes_of = within 0 1000000000

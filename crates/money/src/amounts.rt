@@ -61,7 +61,10 @@ impl Money {
     pub fn scaled(self, scale: Scale) -> Result<ScaledMoney, OutOfRange>
         ensures { result ≡ exactly in_kths (self.count *ℤ pos scale.number) }
     {
-        let kths = self.count.checked_mul(scale.k() as i64).ok_or(OutOfRange)?;
+        let kths = self
+            .count
+            .checked_mul(i64::from(scale.k()))
+            .ok_or(OutOfRange)?;
         Ok(ScaledMoney::new(kths))
     }
 }
@@ -78,7 +81,7 @@ impl ScaledMoney {
         ensures value { result ≡ whole (divided_up self.count scale.number) }
         ensures least { RoundedUp self.count scale.number result.count }
     {
-        let k = scale.k() as i64;
+        let k = i64::from(scale.k());
         Money::new(if self.count <= 0 {
             self.count / k
         } else {

@@ -1,4 +1,4 @@
--- What words mean: their bytes, the numbers that they write, and what is wrong with them.
+-- What words mean: their bytes, the numbers that they write, and the answer that was meant.
 use Rattle.std.specs.Prelude.{◌≡◌, ℕ, ◌^◌, cond, ◌&&◌, List, [], ◌∷◌, map, length, Some, None, Ok, Err, string_bytes, Option, Result, String, nat_lt}
 use Rattle.std.specs.Borrow.{Bor}
 use Rattle.std.specs.declared.alloc.Global.{Global}

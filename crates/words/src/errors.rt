@@ -1,5 +1,5 @@
 // Why a command was not carried out.
-ghost use Rattle.std.specs.Prelude.{◌≡◌, ℕ, List};
+ghost use Rattle.std.specs.Prelude.{◌≡◌, ℕ, List, Some};
 ghost use Rattle.words.specs.declared.errors.CommandError.TheVariants.{Memory, Misused};
 ghost use Rattle.words.specs.Mistakes.{error_text};
 
@@ -11,8 +11,14 @@ pub trait Mistake: fmt::Display {
     // Where the command's usage is found.
     ghost usage: { List ℕ };
 
+    // The mistake in words.
+    ghost text: { Self → List ℕ };
+
     fn usage(&self) -> &'static str
         ensures { result.now ≡ usage };
+
+    // That is what it prints.
+    ghost prints: { (m : Self) → Self.Display.output m ≡ Some (text m) };
 }
 
 // Want of memory, or a mistake in the command's words.
@@ -47,7 +53,7 @@ impl<M: Mistake> From<M> for CommandError<M> {
 }
 
 impl<M: Mistake> fmt::Display for CommandError<M> {
-    ghost output = { error_text M.output M.usage };
+    ghost output = { λ e. Some (error_text M.text M.usage e) };
 
     fn fmt<W: fmt::Write>(&self, f: &mut fmt::Formatter<W>) -> fmt::Result {
         match self {

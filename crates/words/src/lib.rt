@@ -1,4 +1,4 @@
-// Reading the words of a command: the numbers that they write, each of them in turn, and what is wrong with them.
+// Reading the words of a command: the numbers that they write, each word in turn, and why a command was not carried out.
 #![tactic(auto)]
 
 mod errors;

@@ -21,7 +21,8 @@ pub fn read_each<T: Drop, M: Drop, R: Fn(&str) -> Option<T>, B: Fn(usize) -> M>(
 {
     let mut all = Vec::new(heap);
     for (place, word) in words.iter().enumerate() {
-        // No `ok_or`, which would make a mistake for each word that reads.
+        // A `let .. else` in a loop: `ok_or_else` was tried, and a proof can not reach what its closure over `bad` answers;
+        // `map` and `try_collect` would hide it in the same way.
         let Some(one) = read(word.as_str()) else {
             return Err(CommandError::Misused(bad(place)));
         };

@@ -17,8 +17,8 @@ impl TimeAccount {
         Ok(amount)
     }
 
-    // Hands the minutes back at their price, and answers what they came to. (As `charge` but for the operation: one call over
-    // both would take it as a closure, and say less.)
+    // Hands the minutes back at their price, and answers what they came to. (As `charge` but for the operation: one call that
+    // takes the operation would be no plainer.)
     pub fn hand_back(&mut self, time: PricedTime) -> Result<ScaledMoney, OutOfRange>
         ensures answer { result ≡ answered (handed_back self.old.balance.count (worth time)) (worth time) }
         ensures balance { self.new.balance ≡ balanced self.old.balance (handed_back self.old.balance.count (worth time)) }

@@ -11,7 +11,8 @@ impl PricedTime {
     pub fn worth(self) -> ScaledMoney
         ensures { result ≡ in_kths (pos (worth self)) }
     {
-        let kths = self.price.number as u64 * self.minutes.number as u64;
+        let kths = u64::from(self.price.number) * u64::from(self.minutes.number);
+        // No `From` leads from u64 to i64; what priced time is worth always fits.
         ScaledMoney::new(kths as i64)
     }
 }

@@ -1,15 +1,12 @@
-use Rattle.std.proofs.Common.{◌≡◌, ◌*◌, ◌≤◌, drop}
-use Rattle.std.specs.Iterator.Adapters.{enumerate_count}
+use Rattle.std.proofs.Common.{◌≡◌, ◌*◌, ◌≤◌, length, drop}
 use Rattle.base_rules.specs.Verdicts.{plus, verdict_from, verdict}
-use Rattle.base_rules.proofs.Zipped.{Stands}
 use Rattle.base_rules.proofs.problem.Problem.verdict.Given as goal
 
 abbrev pub invariant-loop-t : goal.invariant-loop-t
 invariant-loop-t l =
     let rows = l.self.rows.now in
-    let t = enumerate_count l.t-iterator in
+    let t = length l.yielded in
     record {
-      stands : Stands rows l.plan l.t-iterator;
       so_far : verdict l.self.kind rows l.plan ≡ plus l.cost (verdict_from l.self.kind t l.made l.demanded (drop t rows) (drop t l.plan));
       made : l.made ≤ t * 3200000;
       demanded : l.demanded ≤ t * 100000;

@@ -50,6 +50,7 @@ fn price_words(heap: Global, scale: Scale, words: &[String]) -> Result<MinuteReq
     ensures means { Means request_in result (price_words (Some scale.number) (texts words.now)) }
     ensures few { IfOk result (λ q. vec_len q.times ≤ 32) }
 {
+    // Two guards on a number of words: there is no `Option` to take.
     if words.is_empty() {
         return Err(Misuse::NoPrice.into());
     }

@@ -14,6 +14,7 @@ pub struct Item<'a> {
     pub rows: &'a [Row],
 }
 
+// Each call says anew what is held after it, and that the meaning stays: no type can speak of the rule before.
 impl Item<'_> {
     // Opens the header and tells each row.
     pub fn fill<R: ItemRule>(&self, rule: &mut R) -> Result<(), Refusal>

@@ -21,7 +21,8 @@ pub trait Mistake: fmt::Display {
     ghost prints: { (m : Self) → Self.Display.output m ≡ Some (text m) };
 }
 
-// Want of memory, or a mistake in the command's words.
+// Want of memory, or a mistake in the command's words. (No `Option` of a mistake: want of memory is an error with words of
+// its own.)
 #[derive(Clone, Copy, Debug, PartialEq, Eq)]
 pub enum CommandError<M> {
     Memory,

@@ -118,7 +118,7 @@ impl Problem<'_> {
     {
         let mut hand = Table::from([NO_LOT; MOST_ROWS]);
         let mut owed = Table::from([NO_LOT; MOST_ROWS]);
-        // By the period alone: each turn makes new tables, and asks for one place of the old.
+        // By the period alone: a turn takes the tables whole, and there is nothing to go through beside it.
         for t in (0..self.rows.len()).rev() {
             let turn = Turn { problem: *self, t };
             owed = turn.owe(hand[t].cost, &owed);

@@ -4,6 +4,7 @@ ghost use Rattle.std.specs.Cmp.{partial_order_from_own_ties};
 ghost use Rattle.std.specs.Cmp.Rules.{comparing};
 ghost use Rattle.std.proofs.Common.{rules};
 
+use crate::ranks::Ranked;
 use std::cmp::Ordering;
 
 // A cost: the lower is the better.
@@ -44,4 +45,16 @@ impl PartialOrd for Bound {
     fn partial_cmp(&self, other: &Bound) -> Option<Ordering> {
         Some(self.cmp(other))
     }
+}
+
+impl Ranked for Cost {
+    ghost total = { Prim.search (comparing, rules) };
+}
+
+impl Ranked for Bound {
+    ghost total = { Prim.search (comparing, rules) };
+}
+
+impl Ranked for Candidate {
+    ghost total = { Prim.search (comparing, rules) };
 }

@@ -4,9 +4,11 @@
 mod choices;
 mod entries;
 mod keeping;
+mod ranks;
 #[cfg(test)]
 mod tests;
 
 pub use choices::cheaper;
 pub use entries::{Bound, Candidate, Cost};
 pub use keeping::Best;
+pub use ranks::Ranked;

@@ -1,13 +1,12 @@
 // What the words of a command mean.
 ghost use Rattle.std.specs.Prelude.{◌≡◌, ◌≤◌, length, IfOk, Some, vec_len};
 ghost use Rattle.std.specs.Option.{option_map};
-ghost use Rattle.money.specs.Limits.{within};
 ghost use Rattle.money.specs.Postings.{worth};
-ghost use Rattle.words.specs.Readings.{texts, number, limited, Means};
-ghost use Rattle.commands.specs.Meanings.{minute_word, one_minute, price_words, minute_words, worths_in, request_in};
+ghost use Rattle.words.specs.Readings.{texts, Means};
+ghost use Rattle.commands.specs.Meanings.{scale_word, price_word, minute_word, one_minute, price_words, minute_words, worths_in, request_in};
 
 use crate::mistakes::{CommandError, Misuse};
-use money::{Minutes, PricedTime, Scale, Within};
+use money::{CapacityPrice, Minutes, PricedTime, Scale};
 use std::alloc::Global;
 use words::{first_word, number_word, read_each};
 
@@ -21,18 +20,23 @@ pub struct MinuteRequest {
     pub times: Vec<PricedTime>,
 }
 
-// The number within limits that a word writes.
-fn within_word<const LEAST: u32, const MOST: u32>(word: &str) -> Option<Within<LEAST, MOST>>
-    ensures { option_map (λ w. w.number) result ≡ limited (within LEAST MOST) (number word.now) }
+fn scale_word(word: &str) -> Option<Scale>
+    ensures { option_map (λ s. s.number) result ≡ scale_word word.now }
 {
-    Within::checked(number_word(word)?)
+    Scale::new(number_word(word)?)
+}
+
+fn price_word(word: &str) -> Option<CapacityPrice>
+    ensures { option_map (λ p. p.number) result ≡ price_word word.now }
+{
+    CapacityPrice::new(number_word(word)?)
 }
 
 // One minute at the price that a word writes.
 fn minute_word(word: &str) -> Option<PricedTime>
     ensures { option_map worth result ≡ minute_word word.now }
 {
-    let price = within_word(word)?;
+    let price = price_word(word)?;
     let minutes = Minutes::one();
     Some(PricedTime { price, minutes })
 }
@@ -67,6 +71,6 @@ pub fn minute_request(heap: Global, words: &[String]) -> Result<MinuteRequest, C
     ensures few { IfOk result (λ q. vec_len q.times ≤ 32) }
 {
     let (scale, prices) = first_word(words).ok_or(Misuse::NoScale)?;
-    let scale = within_word(scale).ok_or(Misuse::BadScale)?;
+    let scale = scale_word(scale).ok_or(Misuse::BadScale)?;
     price_words(heap, scale, prices)
 }

@@ -1,5 +1,5 @@
 pub mod Steps
-pub mod Tables
+pub mod Writes
 pub mod Grids
 pub mod Zipped
 pub mod Weighs

@@ -46,15 +46,16 @@ holding_cap p s t =
     omega (arith, sum_by-take-le f rs t, sum_cap f 100000000 rs (λ k lt. ((told_in p).1 k lt).hold), mul-le-mul_right 100000000 p.few)
 
 -- n is the sum of f over rows k up to t
-pub record Left (f : Row → ℕ) (p : Problem) (k t n : ℕ) : Type 0 where
+pub record Summed (f : Row → ℕ) (p : Problem) (k t n : ℕ) : Type 0 where
   pub is : n ≡ sum_by f (take t p.rows.now) - sum_by f (take k p.rows.now)
 
--- one row fewer
-pub less : (f : Row → ℕ) (p : Problem) {k t n : ℕ} → Left f p k t n → k < t → k < length p.rows.now → (f (row_at p.rows.now k) ≤ n) × Left f p (k + 1) t (n - f (row_at p.rows.now k))
-less f p {k} {t} {n} l lt i =
-    let more = sum_by_more f p.rows.now k blank i in
-    let up = sum_up f p.rows.now (k + 1) t (omega arith) in
-    (omega (arith, l.is), record { is = omega (arith, l.is) })
+-- one row further back
+pub one_back : (f : Row → ℕ) (p : Problem) {k t n : ℕ} → Summed f p k t n → 0 < k → k ≤ t → k ≤ length p.rows.now → Summed f p (k - 1) t (n + f (row_at p.rows.now (k - 1)))
+one_back f p {k} {t} {n} s some le i =
+    let back : k - 1 + 1 ≡ k = omega arith in
+    let more = rw back at (sum_by_more f p.rows.now (k - 1) blank (omega arith)) in
+    let up = sum_up f p.rows.now k t le in
+    record { is = omega (arith, s.is) }
 
 pub keep_cap : (p : Problem) (s t n : ℕ) → s < length p.rows.now → t < length p.rows.now → n ≤ 3200000000 → ((row_at p.rows.now s).unit + n) * (row_at p.rows.now t).demand ≤ 340000000000000
 keep_cap p s t n i j le =

@@ -1,10 +1,9 @@
 // The least cost of an item, from the last row back.
 ghost use Rattle.std.specs.Prelude.{◌≡◌, ℕ, ◌+◌, ◌*◌, ◌^◌, ◌<◌, ◌≤◌, min, length, drop};
-ghost use Rattle.base_rules.specs.Programme.{lot_or_wait, owed as owed_least, row_at, due, holding, aged, cost_at};
+ghost use Rattle.base_rules.specs.Programme.{lot_or_wait, owed as owed_least, row_at, due, aged, cost_at};
 ghost use Rattle.base_rules.specs.Verdicts.{may_owe};
 
 use crate::problem::Problem;
-use arrayvec::ArrayVec;
 use best::{Candidate, cheaper};
 use item::MOST_ROWS;
 
@@ -14,15 +13,15 @@ const NO_LOT: Candidate = Candidate {
     period: 255,
 };
 
-// One candidate for each start of a block, or for each lot, in fixed memory.
-type Table = ArrayVec<Candidate, MOST_ROWS>;
-
 // The turn of row t, on the way from the last row back.
 #[derive(Clone, Copy)]
 struct Turn<'a> {
     problem: Problem<'a>,
     t: usize,
+    // Whether units owed at the end of the row may wait.
+    may_wait: bool,
     ghost row: { t < length problem.rows.now },
+    ghost waits: { may_wait ≡ may_owe problem.kind (drop (t + 1) problem.rows.now) },
 }
 
 impl Turn<'_> {
@@ -38,29 +37,29 @@ impl Turn<'_> {
             cost: row.setup + row.unit * n + fresh,
             period: self.t as u8,
         };
-        if self.problem.may_owe(self.t) || n == 0 {
+        // Asked apart from n, so that the loop of `owe` asks it once for all its places.
+        if self.may_wait {
             let cost = row.short * n + wait.cost;
             cheaper(make, Candidate { cost, ..wait })
+        } else if n == 0 {
+            cheaper(make, wait)
         } else {
             make
         }
     }
 
-    // For each start a of a block that it ends: what the units owed since a come to from t on.
-    fn owe(&self, fresh: u64, owed: &Table) -> Table
-        requires long { self.now.t < length owed.now.items }
+    // For each start a of a block that it ends: owed[a] becomes what the units owed since a come to from t on.
+    fn owe(&self, fresh: u64, owed: &mut [Candidate; MOST_ROWS])
         requires fresh { fresh ≤ 2 ^ 61 }
-        requires each { (a : ℕ) → a ≤ self.now.t → cost_at owed.now.items a ≤ 2 ^ 62 }
-        ensures len { length result.items ≡ self.now.t + 1 }
-        ensures each { let rows = self.now.problem.rows.now in let t = self.now.t in (a : ℕ) → a ≤ t → cost_at result.items a ≡ lot_or_wait (may_owe self.now.problem.kind (drop (t + 1) rows)) (row_at rows t) (due rows a (t + 1)) fresh (cost_at owed.now.items a) }
+        requires each { (a : ℕ) → a ≤ self.now.t → cost_at owed.old a ≤ 2 ^ 62 }
+        ensures { let rows = self.now.problem.rows.now in let t = self.now.t in (a : ℕ) → a ≤ t → cost_at owed.new a ≡ lot_or_wait (may_owe self.now.problem.kind (drop (t + 1) rows)) (row_at rows t) (due rows a (t + 1)) fresh (cost_at owed.old a) }
     {
-        let mut n = self.problem.demands(self.t + 1);
-        let mut turned = Table::new();
-        for (row, wait) in self.problem.rows[..=self.t].iter().zip(owed) {
-            turned.push(self.made_or_waiting(n, fresh, *wait));
-            n -= u64::from(row.demand);
+        let mut n = 0;
+        // By an index: the units add up from the last place back, and a proof knows nothing of what `iter_mut().rev()` wrote.
+        for a in (0..self.t + 1).rev() {
+            n += u64::from(self.problem.rows[a].demand);
+            owed[a] = self.made_or_waiting(n, fresh, owed[a]);
         }
-        turned
     }
 
     // What the rows from t on come to when lot s meets row t, its units held since: later is what the rows after t come to.
@@ -78,51 +77,36 @@ impl Turn<'_> {
         }
     }
 
-    // For each earlier lot s: what the rows from t on come to when pieces of lot s are at hand.
-    fn carry(&self, new: Candidate, hand: &Table) -> Table
-        requires long { self.now.t ≤ length hand.now.items }
-        requires each { (s : ℕ) → s < self.now.t → cost_at hand.now.items s ≤ 2 ^ 62 }
-        ensures len { length result.items ≡ self.now.t }
-        ensures each { let rows = self.now.problem.rows.now in let t = self.now.t in (s : ℕ) → s < t → cost_at result.items s ≡ min (aged rows s t * (row_at rows t).demand + cost_at hand.now.items s) new.cost }
+    // For each earlier lot s: hand[s] becomes what the rows from t on come to when pieces of lot s are at hand.
+    fn carry(&self, new: Candidate, hand: &mut [Candidate; MOST_ROWS])
+        requires each { (s : ℕ) → s < self.now.t → cost_at hand.old s ≤ 2 ^ 62 }
+        ensures { let rows = self.now.problem.rows.now in let t = self.now.t in (s : ℕ) → s < t → cost_at hand.new s ≡ min (aged rows s t * (row_at rows t).demand + cost_at hand.old s) new.cost }
     {
-        let mut holding = self.problem.holds(self.t);
-        let mut turned = Table::new();
-        for (s, (row, later)) in self.problem.rows[..self.t].iter().zip(hand).enumerate() {
-            turned.push(cheaper(self.kept(s, holding, later.cost), new));
-            holding -= row.hold;
+        let mut holding = 0;
+        // By an index, as in `owe`: the hold prices add up the same way.
+        for s in (0..self.t).rev() {
+            holding += self.problem.rows[s].hold;
+            hand[s] = cheaper(new, self.kept(s, holding, hand[s].cost));
         }
-        turned
     }
 }
 
 impl Problem<'_> {
-    // The demands of the first n rows.
-    fn demands(&self, n: usize) -> u64
-        requires { n ≤ length self.now.rows.now }
-        ensures { result ≡ due self.now.rows.now 0 n }
-    {
-        self.rows[..n].iter().map(|row| u64::from(row.demand)).sum()
-    }
-
-    // The hold prices of the first n rows.
-    fn holds(&self, n: usize) -> u64
-        requires { n ≤ length self.now.rows.now }
-        ensures { result ≡ holding self.now.rows.now 0 n }
-    {
-        self.rows[..n].iter().map(|row| row.hold).sum()
-    }
-
     // The least cost of all plans that fit and are admitted.
     pub(crate) fn least(&self) -> u64
         ensures { result ≡ owed_least self.now.kind 0 self.now.rows.now }
     {
-        let mut hand = Table::from([NO_LOT; MOST_ROWS]);
-        let mut owed = Table::from([NO_LOT; MOST_ROWS]);
+        let mut hand = [NO_LOT; MOST_ROWS];
+        let mut owed = [NO_LOT; MOST_ROWS];
         // By the period alone: a turn takes the tables whole, and there is nothing to go through beside it.
         for t in (0..self.rows.len()).rev() {
-            let turn = Turn { problem: *self, t };
-            owed = turn.owe(hand[t].cost, &owed);
-            hand = turn.carry(owed[t], &hand);
+            let turn = Turn {
+                problem: *self,
+                t,
+                may_wait: self.may_owe(t),
+            };
+            turn.owe(hand[t].cost, &mut owed);
+            turn.carry(owed[t], &mut hand);
         }
         owed[0].cost
     }

@@ -1,30 +1,36 @@
-use Rattle.std.proofs.Common.{◌+◌, ◌∷◌, [], length, take, refl, ◌∙◌, arith, length-append}
-use Rattle.std.proofs.lemmas.Slice.Zip.{zip_turn}
-use Rattle.base_rules.proofs.Steps.{due_cap, less}
-use Rattle.base_rules.proofs.Tables.{Beside, beside, one_more}
+use Rattle.std.proofs.Common.{◌+◌, ◌-◌, refl, ◌∙◌, arith, rules}
+use Rattle.base_rules.specs.Programme.{row_at}
+use Rattle.base_rules.proofs.Steps.{due_cap, Summed, one_back}
+use Rattle.base_rules.proofs.Writes.{write}
 use Rattle.base_rules.proofs.problem.programme.Turn.owe.Goals as goal
-use Rattle.base_rules.proofs.problem.programme.Turn.owe.Goals.{In-Some}
+use Rattle.base_rules.proofs.problem.programme.Turn.owe.Goals.{In-loop-a}
 
-place : (c : In-Some) → Beside c.args.self.now.problem.rows.now (c.args.self.now.t + 1) c.args.owed.now.items (length c.loop-row.yielded) c.in-Some.row.now c.in-Some.wait.now
-place c =
-    let rows = c.args.self.now.problem.rows.now in
-    let owed = c.args.owed.now.items in
-    beside rows (c.args.self.now.t + 1) owed (zip_turn (take (c.args.self.now.t + 1) rows) owed c.loop-row.yielded c.into_iter-row-iterator.result c.loop-row.row-iterator c.next.new.self _ (cc) (cc) c.loop-row.yielded_by _ c.in-Some.is c.next.ensures.steps)
+-- with the demand of the row before
+units : (c : In-loop-a) → Summed (λ r. r.demand) c.args.self.now.problem (c.loop-a.a - 1) (c.args.self.now.t + 1) (c.loop-a.n + (row_at c.args.self.now.problem.rows.now (c.loop-a.a - 1)).demand)
+units c =
+    let most = c.loop-a.auto.a in
+    let row = c.args.self.now.row in
+    one_back (λ r. r.demand) c.args.self.now.problem c.loop-a.invariant.units (omega arith) most (omega arith)
+
+pub overflow_add-n : goal.overflow_add-n
+overflow_add-n c =
+    let sum = (units (goal.at.overflow_add-n c).In-loop-a).is in
+    let cap = due_cap c.args.self.now.problem (c.loop-a.a - 1) (c.args.self.now.t + 1) in
+    search rules
 
 pub made_or_waiting-requires-clause-few : goal.made_or_waiting-requires-clause-few
-made_or_waiting-requires-clause-few c = omega (arith, c.loop-row.invariant.units.is, due_cap c.args.self.now.problem (length c.loop-row.yielded) (c.args.self.now.t + 1))
+made_or_waiting-requires-clause-few c =
+    let sum = (units (goal.at.made_or_waiting-requires-clause-few c).In-loop-a).is in
+    omega (arith, due_cap c.args.self.now.problem (c.loop-a.a - 1) (c.args.self.now.t + 1))
 
-pub overflow_sub-n : goal.overflow_sub-n
-overflow_sub-n c =
-    let at = place (goal.at.overflow_sub-n c).In-Some in
-    rw (c.from-n.ensures, at.row_is) (less (λ r. r.demand) c.args.self.now.problem c.loop-row.invariant.units at.below at.in_rows).0
-
-pub loop-row-preserved : goal.loop-row-preserved
-loop-row-preserved c =
-    let at = place (goal.at.loop-row-preserved c).In-Some in
-    let units = c.loop-row.invariant.units in
-    let longer = length-append c.loop-row.yielded ((c.in-Some.row, c.in-Some.wait) ∷ []) in
+pub loop-a-preserved : goal.loop-a-preserved
+loop-a-preserved c =
+    let most = c.loop-a.auto.a in
+    let row = c.args.self.now.row in
+    let units = units (goal.at.loop-a-preserved c).In-loop-a in
+    let w = c.loop-a.invariant.written in
+    let old = w.left (c.loop-a.a - 1) (omega arith) in
     record {
-      units = rw (longer, c.from-n.ensures, at.row_is) (less (λ r. r.demand) c.args.self.now.problem units at.below at.in_rows).1;
-      turned = rw (longer, c.push.ensures.items) (one_more _ c.loop-row.invariant.turned (c.made_or_waiting.ensures ∙ rw (units.is, at.cost_is) refl));
+      units = rw c.from-n.ensures units;
+      written = write _ _ (c.loop-a.a - 1) _ _ _ c.made_or_waiting.result (omega arith) (omega arith) w (c.made_or_waiting.ensures ∙ rw (c.from-n.ensures, units.is, old) refl);
     }

@@ -15,12 +15,20 @@ impl RowTable {
         RowTable { opened: None }
     }
 
-    // Holds the header with no rows, whatever was held.
+    // Holds the header with no rows, whatever was held. One that was opened before is emptied in place.
     pub fn open(&mut self, header: Header)
         ensures { held_in self.new ≡ opened header [] }
     {
-        let rows = ArrayVec::new();
-        self.opened = Some(Opened { header, rows });
+        match &mut self.opened {
+            Some(opened) => {
+                opened.header = header;
+                opened.rows.clear();
+            }
+            None => {
+                let rows = ArrayVec::new();
+                self.opened = Some(Opened { header, rows });
+            }
+        }
     }
 
     // Adds a row, unless it is refused.
